@@ -1,0 +1,10 @@
+pub mod Steps
+pub mod Orders
+pub mod Walks
+pub mod Half
+pub mod Bound
+pub mod Cycles
+pub mod Folded
+pub mod Rounds
+pub mod Promised
+pub mod Renaming

@@ -1,0 +1,12 @@
+use mathlib.Core.Path.{_≡_}
+use mathlib.Core.List.{_++_}
+use lib.ListN.{take}
+use Rattle.std.specs.Of.Vec.{vec-items}
+use Rattle.std.specs.shelf.Lists.{joined}
+use Rattle.network_file.specs.Reading.{arcs-of}
+use Rattle.inspect.specs.Report.{arc-line}
+use Rattle.inspect.proofs.push_arcs.Given as given
+
+-- the lines so far
+abbrev pub Inv-loop-position : given.InvT-loop-position
+Inv-loop-position l = vec-items (l .text) ≡ vec-items (l .entry .text) ++ joined arc-line (take (l .position) (arcs-of (l .file .bytes .now)))

@@ -1,0 +1,4 @@
+pub mod Last
+pub mod Mending
+pub mod Listed
+pub mod Calls

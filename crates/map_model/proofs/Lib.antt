@@ -1,0 +1,12 @@
+pub mod Searching
+pub mod Pushing
+pub mod Linking
+pub mod Keeping
+pub mod Taking
+pub mod Storing
+pub mod Running
+pub mod Listing
+pub mod Placing
+pub mod Showing
+pub mod Absent
+pub mod Replaying
