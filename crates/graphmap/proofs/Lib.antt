@@ -1,0 +1,9 @@
+mod Blanking
+mod Composing
+mod Holding
+mod Reading
+mod Walking
+mod Opening
+mod Showing
+mod Weights
+mod Edges
