@@ -1,1 +1,2 @@
 pub mod Replayed
+pub mod Running

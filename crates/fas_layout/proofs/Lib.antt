@@ -1,0 +1,12 @@
+pub mod Filing
+pub mod Lowered
+pub mod Followed
+pub mod Counted
+pub mod Chosen
+pub mod Taking
+pub mod Parts
+pub mod Staged
+pub mod Renamed
+pub mod Laid
+pub mod Entering
+pub mod Bridge

@@ -1,0 +1,10 @@
+pub mod Reading
+pub mod Stepping
+pub mod Finding
+pub mod Sourced
+pub mod Ranking
+pub mod Standing
+pub mod Placing
+pub mod Codes
+pub mod Judging
+pub mod Seeking
