@@ -1,5 +1,7 @@
 // Replays a list of edits from the standard input, and prints what each did and what the map then shows.
 
+#![tactic(auto)]
+
 mod lines;
 mod text;
 

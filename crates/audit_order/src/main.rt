@@ -1,6 +1,8 @@
 // Replays a list of edits from the standard input, and prints what each did, what the map then shows, its order and
 // held arcs, and the most that could have been held.
 
+#![tactic(auto)]
+
 mod lines;
 mod order;
 mod tables;

@@ -1,5 +1,7 @@
 // Numbers written in decimal.
 
+#![tactic(auto)]
+
 ghost use Rattle.std.specs.Prelude.{◌≡◌, ◌+◌, ◌≤◌, length, if◌then◌else◌, Some, None};
 ghost use Rattle.decimal.specs.Digits.{digits, OnlyNumeral};
 ghost use Rattle.decimal.specs.Outputs.{fits_at, put_at};

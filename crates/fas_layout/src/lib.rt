@@ -1,4 +1,7 @@
 // What the working tables of an ordering stand for, as mathematics over plain lists.
+
+#![tactic(auto)]
+
 pub mod direction;
 
 pub use direction::Direction;

@@ -1,5 +1,7 @@
 // The faults that a call can answer, each with its number and its place.
 
+#![tactic(auto)]
+
 ghost use Rattle.std.specs.Prelude.{◌≡◌, ◌+◌, ◌≤◌, length};
 ghost use Rattle.decimal.specs.Digits.{digits};
 ghost use Rattle.decimal.specs.Outputs.{put_at};

@@ -1,4 +1,7 @@
 // A greedy feedback-arc order of the nodes of an arc source, in lent working tables.
+
+#![tactic(auto)]
+
 mod buckets;
 mod container;
 mod entering;

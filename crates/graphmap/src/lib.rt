@@ -1,4 +1,7 @@
 // A directed graph map over lent tables.
+
+#![tactic(auto)]
+
 pub mod graphmap;
 pub mod lent;
 pub mod link_found;

@@ -1,5 +1,7 @@
 // Reads a network file from the standard input, and prints what it holds or why it is refused.
 
+#![tactic(auto)]
+
 ghost use Rattle.std.specs.Prelude.{◌≡◌, ◌≤◌, ◌++◌, length, is_ok, IfOk, OnOk};
 ghost use Rattle.decimal.specs.Digits.{digits};
 ghost use Rattle.fault.specs.Faults.{refusal_line};

@@ -1,4 +1,7 @@
 // An insertion-ordered map over a lent slice of slots, looked up by hash chains inside the slots.
+
+#![tactic(auto)]
+
 mod chains;
 mod rows;
 pub mod slots;

@@ -1,4 +1,7 @@
 // Keys: what names a node, an arc or a working entry, and the number that each one means.
+
+#![tactic(auto)]
+
 pub mod ends;
 pub mod fas_node_index;
 pub mod junction;

@@ -1,5 +1,7 @@
 // A map of lane addresses whose arcs carry lane records: edits, and what the map then shows.
 
+#![tactic(auto)]
+
 use anyhow::anyhow;
 use fault::Fault;
 use graphmap::{ArcPlace, GraphMap, LinkPlace, NodePlace, Places};

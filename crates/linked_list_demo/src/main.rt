@@ -1,4 +1,7 @@
 // Two lists in one container: each action, what it answers, and both lists after it.
+
+#![tactic(auto)]
+
 use linked_list::list::LinkedList;
 use linked_list::position::Position;
 use linked_list::slots::{Link, Slots};

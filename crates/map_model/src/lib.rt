@@ -1,5 +1,7 @@
 // The edits of a graph map and their answers, and what a map shows after any list of them.
 
+#![tactic(auto)]
+
 ghost use Rattle.std.specs.Prelude.{◌≡◌, T, length};
 ghost use Rattle.map_model.specs.Answers.{number_of_answer, granted};
 ghost use Rattle.map_model.specs.Model.{opposite};

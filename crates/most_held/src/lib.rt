@@ -1,4 +1,7 @@
 // The most arcs of a map that could have been held, for the auditor.
+
+#![tactic(auto)]
+
 ghost use Rattle.std.specs.Prelude.{◌≡◌};
 ghost use Rattle.graphmap.specs.Maps.{map_model};
 ghost use Rattle.most_held.specs.Bounds.{bound_by_nodes, Bounded, bounds, NoMoreAreHeld, opposed, opposites};

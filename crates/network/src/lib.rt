@@ -1,5 +1,8 @@
 // Networks: arcs with weights, and what answers for a list of them.
 // The vocabulary (loop, opposite, touched, closed walk, place, held) stands in specs/.
+
+#![tactic(auto)]
+
 pub mod arc;
 pub mod arc_slice;
 pub mod counts;

@@ -1,5 +1,7 @@
 // Network files: read and checked. A file is a contents table, node numbers and arcs, all in 32-bit fields.
 
+#![tactic(auto)]
+
 mod arc;
 mod checks;
 mod fields;

@@ -1,5 +1,7 @@
 // Damaged network files, and the number and the place that each of them is refused with.
 
+#![tactic(auto)]
+
 #[cfg(test)]
 mod tests {
     use network_file::{FILE_LIMIT, check};

@@ -1,5 +1,7 @@
 // Replays recorded answers of petgraph's own code, and counts the records that agree.
 
+#![tactic(auto)]
+
 mod edits;
 mod orders;
 mod words;

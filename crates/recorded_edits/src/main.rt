@@ -1,5 +1,7 @@
 // Replays recorded lists of edits, and counts those whose answers and final map are the recorded ones.
 
+#![tactic(auto)]
+
 mod words;
 
 use fault::Fault;

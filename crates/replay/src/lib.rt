@@ -1,5 +1,7 @@
 // A list of edits replayed on a map, and the map ordered.
 
+#![tactic(auto)]
+
 pub mod edits;
 pub mod run;
 pub mod step;

@@ -1,5 +1,8 @@
 // Fills a keyed table with lane addresses, replaces, removes and empties, and prints its items in sequence after each
 // action. Each line of items has position, address and record: position:junction/arm/lane=lanes,share.
+
+#![tactic(auto)]
+
 mod uses;
 
 use fault::Fault;
