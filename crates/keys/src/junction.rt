@@ -1,5 +1,5 @@
 ghost use Rattle.std.specs.Prelude.{◌≡◌, ◌^◌, ◌<◌};
-ghost use Rattle.std.proofs.Common.{rules, arith};
+ghost use Rattle.std.proofs.Common.{rules};
 
 use crate::key::{Key, NodeKey};
 use crate::node_index::NodeIndex;
@@ -28,9 +28,9 @@ impl Junction {
 impl Key for Junction {
     ghost code = { λ j. j.value };
 
-    ghost small = { first_of (Prim.search rules, Prim.grind (arith, Self.row.coded.inj)) };
+    ghost small = { Prim.search rules };
 
-    ghost apart = { first_of (Prim.search rules, Prim.grind (arith, Self.row.coded.inj)) };
+    ghost apart = { Prim.search rules };
 
     fn number(&self) -> u64 {
         self.get() as u64
@@ -40,11 +40,11 @@ impl Key for Junction {
 impl NodeKey for Junction {
     ghost index = { λ j. j.value };
 
-    ghost narrow = { first_of (Prim.search rules, Prim.grind (arith, Self.row.coded.inj)) };
+    ghost narrow = { Prim.search rules };
 
-    ghost differs = { first_of (Prim.search rules, Prim.grind (arith, Self.row.coded.inj)) };
+    ghost differs = { Prim.search rules };
 
-    ghost numbered = { first_of (Prim.search rules, Prim.grind (arith, Self.row.coded.inj)) };
+    ghost numbered = { Prim.search rules };
 
     fn node_index(&self) -> NodeIndex {
         NodeIndex::new(self.get())

@@ -1,7 +1,7 @@
 ghost use Rattle.std.specs.Prelude.{◌≡◌, ℕ, ◌+◌, ◌*◌, ◌^◌, ◌<◌, true, false, Ok, Err};
 ghost use Rattle.fault.specs.declared.Fault.TheVariants.{LaneRange};
 ghost use Rattle.keys.specs.Numbers.{lane_index, lane_in_range};
-ghost use Rattle.std.proofs.Common.{rules, arith};
+ghost use Rattle.std.proofs.Common.{rules};
 
 use crate::key::{Key, NodeKey};
 use crate::node_index::NodeIndex;
@@ -67,9 +67,9 @@ impl LaneAddress {
 impl Key for LaneAddress {
     ghost code = { λ a. lane_index a.junction a.arm a.lane };
 
-    ghost small = { first_of (Prim.search rules, Prim.grind (arith, Self.row.coded.inj)) };
+    ghost small = { Prim.search rules };
 
-    ghost apart = { first_of (Prim.search rules, Prim.grind (arith, Self.row.coded.inj)) };
+    ghost apart = { Prim.search rules };
 
     fn number(&self) -> u64 {
         self.packed() as u64
@@ -79,11 +79,11 @@ impl Key for LaneAddress {
 impl NodeKey for LaneAddress {
     ghost index = { λ a. lane_index a.junction a.arm a.lane };
 
-    ghost narrow = { first_of (Prim.search rules, Prim.grind (arith, Self.row.coded.inj)) };
+    ghost narrow = { Prim.search rules };
 
-    ghost differs = { first_of (Prim.search rules, Prim.grind (arith, Self.row.coded.inj)) };
+    ghost differs = { Prim.search rules };
 
-    ghost numbered = { first_of (Prim.search rules, Prim.grind (arith, Self.row.coded.inj)) };
+    ghost numbered = { Prim.search rules };
 
     fn node_index(&self) -> NodeIndex {
         NodeIndex::new(self.packed())

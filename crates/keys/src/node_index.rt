@@ -1,5 +1,5 @@
 ghost use Rattle.std.specs.Prelude.{◌≡◌, ◌^◌, ◌<◌};
-ghost use Rattle.std.proofs.Common.{rules, arith};
+ghost use Rattle.std.proofs.Common.{rules};
 
 use crate::key::{Key, NodeKey};
 
@@ -27,9 +27,9 @@ impl NodeIndex {
 impl Key for NodeIndex {
     ghost code = { λ n. n.value };
 
-    ghost small = { first_of (Prim.search rules, Prim.grind (arith, Self.row.coded.inj)) };
+    ghost small = { Prim.search rules };
 
-    ghost apart = { first_of (Prim.search rules, Prim.grind (arith, Self.row.coded.inj)) };
+    ghost apart = { Prim.search rules };
 
     fn number(&self) -> u64 {
         self.get() as u64
@@ -39,11 +39,11 @@ impl Key for NodeIndex {
 impl NodeKey for NodeIndex {
     ghost index = { λ n. n.value };
 
-    ghost narrow = { first_of (Prim.search rules, Prim.grind (arith, Self.row.coded.inj)) };
+    ghost narrow = { Prim.search rules };
 
-    ghost differs = { first_of (Prim.search rules, Prim.grind (arith, Self.row.coded.inj)) };
+    ghost differs = { Prim.search rules };
 
-    ghost numbered = { first_of (Prim.search rules, Prim.grind (arith, Self.row.coded.inj)) };
+    ghost numbered = { Prim.search rules };
 
     fn node_index(&self) -> NodeIndex {
         *self

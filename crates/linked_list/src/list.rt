@@ -33,8 +33,8 @@ fn moved_start(start: Option<u32>, i: u32, new: Option<u32>) -> Option<u32>
 
 // Gives the entry that is named, if any, another `prev`.
 fn set_prev<C: Container>(entries: &mut C, named: Option<u32>, prev: Option<u32>)
-    ensures placed { positions entries.new ≡ prev_set (positions entries.old) named prev }
-    ensures kept { stripped entries.new ≡ stripped entries.old }
+    ensures placed { C.positions entries.new ≡ prev_set (C.positions entries.old) named prev }
+    ensures kept { C.stripped entries.new ≡ C.stripped entries.old }
 {
     if let Some(i) = named {
         let position = entries.position(i);
@@ -44,8 +44,8 @@ fn set_prev<C: Container>(entries: &mut C, named: Option<u32>, prev: Option<u32>
 
 // Gives the entry that is named, if any, another `next`.
 fn set_next<C: Container>(entries: &mut C, named: Option<u32>, next: Option<u32>)
-    ensures placed { positions entries.new ≡ next_set (positions entries.old) named next }
-    ensures kept { stripped entries.new ≡ stripped entries.old }
+    ensures placed { C.positions entries.new ≡ next_set (C.positions entries.old) named next }
+    ensures kept { C.stripped entries.new ≡ C.stripped entries.old }
 {
     if let Some(i) = named {
         let position = entries.position(i);
@@ -55,7 +55,7 @@ fn set_next<C: Container>(entries: &mut C, named: Option<u32>, next: Option<u32>
 
 // Whether what stands before `i` leads to it: the start, or the entry that `prev` names.
 fn leads_to<C: Container>(entries: &C, start: Option<u32>, prev: Option<u32>, i: u32) -> bool
-    ensures { result ≡ leads_to (positions entries.now) start prev i }
+    ensures { result ≡ leads_to (C.positions entries.now) start prev i }
 {
     match prev {
         None => names_index(start, i),
@@ -65,7 +65,7 @@ fn leads_to<C: Container>(entries: &C, start: Option<u32>, prev: Option<u32>, i:
 
 // Whether the entry that is named, if any, has `i` before it.
 fn has_before<C: Container>(entries: &C, named: Option<u32>, i: u32) -> bool
-    ensures { result ≡ points_back (positions entries.now) named i }
+    ensures { result ≡ points_back (C.positions entries.now) named i }
 {
     match named {
         None => true,
@@ -75,7 +75,7 @@ fn has_before<C: Container>(entries: &C, named: Option<u32>, i: u32) -> bool
 
 // Whether nothing stands before the entry that is named, if any.
 fn is_front_entry<C: Container>(entries: &C, named: Option<u32>) -> bool
-    ensures { result ≡ is_front (positions entries.now) named }
+    ensures { result ≡ is_front (C.positions entries.now) named }
 {
     match named {
         None => true,
@@ -97,7 +97,7 @@ impl LinkedList {
 
     // Whether `i` is in a list, as its neighbours, or the start, say too.
     fn can_remove<C: Container>(&self, entries: &C, i: u32) -> bool
-        ensures { result ≡ can_remove (positions entries.now) self.now.start i }
+        ensures { result ≡ can_remove (C.positions entries.now) self.now.start i }
     {
         let position = entries.position(i);
         position.is_in_list()
@@ -107,16 +107,16 @@ impl LinkedList {
 
     // Whether `i` is there and in no list, and this is a list.
     fn can_push<C: Container>(&self, entries: &C, i: u32) -> bool
-        ensures { result ≡ can_push (positions entries.now) self.now.start i }
+        ensures { result ≡ can_push (C.positions entries.now) self.now.start i }
     {
         entries.holds(i) && !entries.position(i).is_in_list() && is_front_entry(entries, self.start)
     }
 
     // Takes `i` out: its neighbours become each other's.
     fn take_out<C: Container>(&mut self, entries: &mut C, i: u32)
-        ensures placed { positions entries.new ≡ after_remove (positions entries.old) i }
-        ensures started { self.new.start ≡ start_after_remove (positions entries.old) self.old.start i }
-        ensures kept { stripped entries.new ≡ stripped entries.old }
+        ensures placed { C.positions entries.new ≡ after_remove (C.positions entries.old) i }
+        ensures started { self.new.start ≡ start_after_remove (C.positions entries.old) self.old.start i }
+        ensures kept { C.stripped entries.new ≡ C.stripped entries.old }
     {
         let position = entries.position(i);
         let prev = position.prev();
@@ -129,9 +129,9 @@ impl LinkedList {
 
     // Puts `j` where `i` stands, and takes `i` out.
     fn put_for<C: Container>(&mut self, entries: &mut C, i: u32, j: u32)
-        ensures placed { positions entries.new ≡ after_replace (positions entries.old) i j }
+        ensures placed { C.positions entries.new ≡ after_replace (C.positions entries.old) i j }
         ensures started { self.new.start ≡ moved self.old.start i (Some j) }
-        ensures kept { stripped entries.new ≡ stripped entries.old }
+        ensures kept { C.stripped entries.new ≡ C.stripped entries.old }
     {
         let position = entries.position(i);
         let prev = position.prev();
@@ -145,7 +145,7 @@ impl LinkedList {
 
     // Whether both the first entry and `i` can be taken out.
     fn can_swap<C: Container>(&self, entries: &C, i: u32) -> bool
-        ensures { result ≡ can_swap (positions entries.now) self.now.start i }
+        ensures { result ≡ can_swap (C.positions entries.now) self.now.start i }
     {
         match self.start {
             None => false,
@@ -155,9 +155,9 @@ impl LinkedList {
 
     // Takes the first entry out, and puts it where `i` stands unless it is `i`.
     fn move_front<C: Container>(&mut self, entries: &mut C, i: u32)
-        ensures placed { positions entries.new ≡ after_swap (positions entries.old) self.old.start i }
-        ensures started { self.new.start ≡ start_after_swap (positions entries.old) self.old.start i }
-        ensures kept { stripped entries.new ≡ stripped entries.old }
+        ensures placed { C.positions entries.new ≡ after_swap (C.positions entries.old) self.old.start i }
+        ensures started { self.new.start ≡ start_after_swap (C.positions entries.old) self.old.start i }
+        ensures kept { C.stripped entries.new ≡ C.stripped entries.old }
     {
         if let Some(front) = self.start {
             self.take_out(entries, front);
@@ -171,15 +171,15 @@ impl LinkedList {
     ///
     /// Answers `false`, and changes nothing, where the container has no entry `i` or `i` is in a list.
     pub fn push_front<C: Container>(&mut self, entries: &mut C, i: u32) -> bool
-        ensures answer { result ≡ can_push (positions entries.old) self.old.start i }
-        ensures placed { positions entries.new ≡ (if result then after_push (positions entries.old) self.old.start i else positions entries.old) }
+        ensures answer { result ≡ can_push (C.positions entries.old) self.old.start i }
+        ensures placed { C.positions entries.new ≡ (if result then after_push (C.positions entries.old) self.old.start i else C.positions entries.old) }
         ensures started { self.new.start ≡ (if result then Some i else self.old.start) }
-        ensures kept { stripped entries.new ≡ stripped entries.old }
-        ensures granted { (l : List ℕ) → Holds (positions entries.old) self.old.start l → result ≡ (nat_lt i (length (positions entries.old)) && not (is_in (at (positions entries.old) i))) }
-        ensures listed { result ≡ true → Becomes (λ l. i ∷ l) (positions entries.old) self.old.start (positions entries.new) self.new.start }
-        ensures others { OthersStay (positions entries.old) self.old.start (positions entries.new) }
-        ensures status { StatusStays i (positions entries.old) (positions entries.new) }
-        ensures size { length (positions entries.new) ≡ length (positions entries.old) }
+        ensures kept { C.stripped entries.new ≡ C.stripped entries.old }
+        ensures granted { (l : List ℕ) → Holds (C.positions entries.old) self.old.start l → result ≡ (nat_lt i (length (C.positions entries.old)) && not (is_in (at (C.positions entries.old) i))) }
+        ensures listed { result ≡ true → Becomes (λ l. i ∷ l) (C.positions entries.old) self.old.start (C.positions entries.new) self.new.start }
+        ensures others { OthersStay (C.positions entries.old) self.old.start (C.positions entries.new) }
+        ensures status { StatusStays i (C.positions entries.old) (C.positions entries.new) }
+        ensures size { length (C.positions entries.new) ≡ length (C.positions entries.old) }
     {
         if !self.can_push(entries, i) {
             return false;
@@ -201,17 +201,17 @@ impl LinkedList {
     /// Answers `false`, and changes nothing, where `i` is in no list or the start of another one.
     /// A later entry of another list leaves that list.
     pub fn remove<C: Container>(&mut self, entries: &mut C, i: u32) -> bool
-        ensures answer { result ≡ can_remove (positions entries.old) self.old.start i }
-        ensures placed { positions entries.new ≡ (if result then after_remove (positions entries.old) i else positions entries.old) }
-        ensures started { self.new.start ≡ (if result then start_after_remove (positions entries.old) self.old.start i else self.old.start) }
-        ensures kept { stripped entries.new ≡ stripped entries.old }
-        ensures granted { (l : List ℕ) → Holds (positions entries.old) self.old.start l → has l i ≡ true → result ≡ true }
-        ensures listed { Becomes (without i) (positions entries.old) self.old.start (positions entries.new) self.new.start }
-        ensures others { OthersStayIfListed i (positions entries.old) self.old.start (positions entries.new) }
-        ensures elsewhere { result ≡ true → OthersBecome (without i) (positions entries.old) self.old.start (positions entries.new) }
-        ensures freed { result ≡ true → at (positions entries.new) i ≡ Free }
-        ensures status { StatusStays i (positions entries.old) (positions entries.new) }
-        ensures size { length (positions entries.new) ≡ length (positions entries.old) }
+        ensures answer { result ≡ can_remove (C.positions entries.old) self.old.start i }
+        ensures placed { C.positions entries.new ≡ (if result then after_remove (C.positions entries.old) i else C.positions entries.old) }
+        ensures started { self.new.start ≡ (if result then start_after_remove (C.positions entries.old) self.old.start i else self.old.start) }
+        ensures kept { C.stripped entries.new ≡ C.stripped entries.old }
+        ensures granted { (l : List ℕ) → Holds (C.positions entries.old) self.old.start l → has l i ≡ true → result ≡ true }
+        ensures listed { Becomes (without i) (C.positions entries.old) self.old.start (C.positions entries.new) self.new.start }
+        ensures others { OthersStayIfListed i (C.positions entries.old) self.old.start (C.positions entries.new) }
+        ensures elsewhere { result ≡ true → OthersBecome (without i) (C.positions entries.old) self.old.start (C.positions entries.new) }
+        ensures freed { result ≡ true → at (C.positions entries.new) i ≡ Free }
+        ensures status { StatusStays i (C.positions entries.old) (C.positions entries.new) }
+        ensures size { length (C.positions entries.new) ≡ length (C.positions entries.old) }
     {
         if !self.can_remove(entries, i) {
             return false;
@@ -222,16 +222,16 @@ impl LinkedList {
 
     /// Takes the first entry out, and answers it.
     pub fn pop<C: Container>(&mut self, entries: &mut C) -> Option<u32>
-        ensures answer { result ≡ (if can_pop (positions entries.old) self.old.start then self.old.start else None) }
-        ensures placed { positions entries.new ≡ (if can_pop (positions entries.old) self.old.start then after_pop (positions entries.old) self.old.start else positions entries.old) }
-        ensures started { self.new.start ≡ (if can_pop (positions entries.old) self.old.start then start_after_pop (positions entries.old) self.old.start else self.old.start) }
-        ensures kept { stripped entries.new ≡ stripped entries.old }
-        ensures granted { (l : List ℕ) → Holds (positions entries.old) self.old.start l → result ≡ first l }
-        ensures listed { Becomes rest (positions entries.old) self.old.start (positions entries.new) self.new.start }
-        ensures others { OthersStay (positions entries.old) self.old.start (positions entries.new) }
-        ensures freed { (i : ℕ) → result ≡ Some i → at (positions entries.new) i ≡ Free }
-        ensures status { (j : ℕ) → (result ≢ Some j) → is_in (at (positions entries.new) j) ≡ is_in (at (positions entries.old) j) }
-        ensures size { length (positions entries.new) ≡ length (positions entries.old) }
+        ensures answer { result ≡ (if can_pop (C.positions entries.old) self.old.start then self.old.start else None) }
+        ensures placed { C.positions entries.new ≡ (if can_pop (C.positions entries.old) self.old.start then after_pop (C.positions entries.old) self.old.start else C.positions entries.old) }
+        ensures started { self.new.start ≡ (if can_pop (C.positions entries.old) self.old.start then start_after_pop (C.positions entries.old) self.old.start else self.old.start) }
+        ensures kept { C.stripped entries.new ≡ C.stripped entries.old }
+        ensures granted { (l : List ℕ) → Holds (C.positions entries.old) self.old.start l → result ≡ first l }
+        ensures listed { Becomes rest (C.positions entries.old) self.old.start (C.positions entries.new) self.new.start }
+        ensures others { OthersStay (C.positions entries.old) self.old.start (C.positions entries.new) }
+        ensures freed { (i : ℕ) → result ≡ Some i → at (C.positions entries.new) i ≡ Free }
+        ensures status { (j : ℕ) → (result ≢ Some j) → is_in (at (C.positions entries.new) j) ≡ is_in (at (C.positions entries.old) j) }
+        ensures size { length (C.positions entries.new) ≡ length (C.positions entries.old) }
     {
         let popped = self.start?;
         if self.remove(entries, popped) {
@@ -245,17 +245,17 @@ impl LinkedList {
     ///
     /// The first entry itself just leaves. Answers `false`, and changes nothing, where `remove` does.
     pub fn swap_remove<C: Container>(&mut self, entries: &mut C, i: u32) -> bool
-        ensures answer { result ≡ can_swap (positions entries.old) self.old.start i }
-        ensures placed { positions entries.new ≡ (if result then after_swap (positions entries.old) self.old.start i else positions entries.old) }
-        ensures started { self.new.start ≡ (if result then start_after_swap (positions entries.old) self.old.start i else self.old.start) }
-        ensures kept { stripped entries.new ≡ stripped entries.old }
-        ensures granted { (l : List ℕ) → Holds (positions entries.old) self.old.start l → has l i ≡ true → result ≡ true }
-        ensures listed { result ≡ true → Becomes (swap_removed i) (positions entries.old) self.old.start (positions entries.new) self.new.start }
-        ensures others { OthersStayIfListed i (positions entries.old) self.old.start (positions entries.new) }
-        ensures elsewhere { (f : ℕ) → result ≡ true → self.old.start ≡ Some f → OthersBecome (replaced i f) (positions entries.old) self.old.start (positions entries.new) }
-        ensures freed { result ≡ true → at (positions entries.new) i ≡ Free }
-        ensures status { StatusStays i (positions entries.old) (positions entries.new) }
-        ensures size { length (positions entries.new) ≡ length (positions entries.old) }
+        ensures answer { result ≡ can_swap (C.positions entries.old) self.old.start i }
+        ensures placed { C.positions entries.new ≡ (if result then after_swap (C.positions entries.old) self.old.start i else C.positions entries.old) }
+        ensures started { self.new.start ≡ (if result then start_after_swap (C.positions entries.old) self.old.start i else self.old.start) }
+        ensures kept { C.stripped entries.new ≡ C.stripped entries.old }
+        ensures granted { (l : List ℕ) → Holds (C.positions entries.old) self.old.start l → has l i ≡ true → result ≡ true }
+        ensures listed { result ≡ true → Becomes (swap_removed i) (C.positions entries.old) self.old.start (C.positions entries.new) self.new.start }
+        ensures others { OthersStayIfListed i (C.positions entries.old) self.old.start (C.positions entries.new) }
+        ensures elsewhere { (f : ℕ) → result ≡ true → self.old.start ≡ Some f → OthersBecome (replaced i f) (C.positions entries.old) self.old.start (C.positions entries.new) }
+        ensures freed { result ≡ true → at (C.positions entries.new) i ≡ Free }
+        ensures status { StatusStays i (C.positions entries.old) (C.positions entries.new) }
+        ensures size { length (C.positions entries.new) ≡ length (C.positions entries.old) }
     {
         if !self.can_swap(entries, i) {
             return false;

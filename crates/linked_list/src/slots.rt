@@ -69,7 +69,7 @@ impl<'a, T: Linked> Container for Slots<'a, T> {
 }
 
 fn position_at<T: Linked>(slots: &[T], i: u32) -> Position
-    ensures { result ≡ at (map place slots.now) i }
+    ensures { result ≡ at (map T.place slots.now) i }
 {
     if (i as usize) < slots.len() {
         slots[i as usize].position()
@@ -79,8 +79,8 @@ fn position_at<T: Linked>(slots: &[T], i: u32) -> Position
 }
 
 fn set_position_at<T: Linked>(slots: &mut [T], i: u32, position: Position)
-    ensures placed { map place slots.new ≡ slice_set (map place slots.old) i position }
-    ensures kept { map blank slots.new ≡ map blank slots.old }
+    ensures placed { map T.place slots.new ≡ slice_set (map T.place slots.old) i position }
+    ensures kept { map T.blank slots.new ≡ map T.blank slots.old }
 {
     if (i as usize) < slots.len() {
         slots[i as usize].set_position(position);

@@ -5,11 +5,11 @@ use Rattle.decimal.proofs.Outputs.{ten_suffice}
 use Rattle.fault.proofs.put_number.Goals as goal
 
 pub unwrap-requires : goal.unwrap-requires
-unwrap-requires c = rw (ten_suffice c.args.line.now c.args.at c.args.n c.write-decimal.result (omega arith) c.requires c.write-decimal.ensures.answer)
+unwrap-requires c = rw (ten_suffice c.args.line.now c.args.at c.args.n c.write_decimal.result (omega arith) c.requires c.write_decimal.ensures.answer)
 
 pub returns : goal.returns
 returns c =
     let ten : length (digits c.args.n) ≤ 10 = at_most_ten c.args.n (omega arith) in
-    let some = ten_suffice c.args.line.now c.args.at c.args.n c.write-decimal.result (omega arith) c.requires c.write-decimal.ensures.answer in
+    let some = ten_suffice c.args.line.now c.args.at c.args.n c.write_decimal.result (omega arith) c.requires c.write_decimal.ensures.answer in
     let is : c.unwrap.result ≡ length (digits c.args.n) = cc (some, c.unwrap.ensures) in
-    record { len = is; short = omega arith; bytes = c.write-decimal.ensures.output }
+    record { len = is; short = omega arith; bytes = c.write_decimal.ensures.output }

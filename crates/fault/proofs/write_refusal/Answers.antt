@@ -7,9 +7,9 @@ use Rattle.fault.proofs.write_refusal.Goals as goal
 
 pub returns : goal.returns
 returns c =
-    let e = c.put-refusal-length.ensures in
+    let e = c.put_refusal-length.ensures in
     let line = refusal_line c.args.fault in
     let room : fits_at c.args.out.now 0 line ≡ true = le-leb _ _ (omega (arith, e.len)) in
-    let whole : take (c.put-refusal-length.result - 0) c.put-refusal-length.new.line ≡ line =
-    rw e.bytes (take_put (replicate 33 0) line (c.put-refusal-length.result - 0) (omega (arith, e.len, e.short)) (omega (arith, e.len))) in
-    record { answer = rw (room, e.len); output = c.put-text.ensures ∙ ap (put_at c.args.out.now 0) whole; short = omega (arith, e.len, e.short) }
+    let whole : take (c.put_refusal-length.result - 0) c.put_refusal-length.new.line ≡ line =
+    rw e.bytes (take_put (replicate 33 0) line (c.put_refusal-length.result - 0) (omega (arith, e.len, e.short)) (omega (arith, e.len))) in
+    record { answer = rw (room, e.len); output = c.put_text.ensures ∙ ap (put_at c.args.out.now 0) whole; short = omega (arith, e.len, e.short) }

@@ -6,8 +6,8 @@ use Rattle.linked_list.proofs.slots.set_position_at.Goals as goal
 pub returns-then-i-slots : goal.returns-then-i-slots
 returns-then-i-slots g c =
     record {
-      placed = map-set g.T.Linked.place c.args.slots.now c.args.i c.set-position.new.self ∙ ap (set (map g.T.Linked.place c.args.slots.now) c.args.i) c.set-position.ensures.placed;
-      kept = map-set_same g.T.Linked.blank c.args.slots.now c.args.i c.set-position.new.self _ c.set-position.ensures.kept;
+      placed = map-set g.T.Linked.place c.args.slots.now c.args.i c.set_position.new.self ∙ ap (set (map g.T.Linked.place c.args.slots.now) c.args.i) c.set_position.ensures.placed;
+      kept = map-set_same g.T.Linked.blank c.args.slots.now c.args.i c.set_position.new.self _ c.set_position.ensures.kept;
     }
 
 pub returns-else-i-slots : goal.returns-else-i-slots

@@ -5,7 +5,7 @@ use Rattle.network_file.proofs.fields.byte_at.Goals as goal
 
 pub returns-then-i-bytes : goal.returns-then-i-bytes
 unfolding byte_at
-returns-then-i-bytes c = omega (arith, c.type-inv.bytes c.args.i)
+returns-then-i-bytes c = omega (arith, c.type_inv.bytes c.args.i)
 
 pub returns-else-i-bytes : goal.returns-else-i-bytes
 unfolding byte_at

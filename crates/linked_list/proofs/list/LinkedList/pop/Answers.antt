@@ -6,10 +6,10 @@ use Rattle.linked_list.proofs.list.LinkedList.pop.Goals as goal
 
 pub returns-then-remove : goal.returns-then-remove
 returns-then-remove g c =
-    let f = c.in-ok-popped.popped in
+    let f = c.in_ok-popped.popped in
     let e = c.if-remove.ensures in
     let M = g.C.Container.positions c.remove.new.entries in
-    let p = pops (g.C.Container.positions c.args.entries.now) M c.args.self.now.start _ f c.in-ok-popped.was (sym e.answer) e.placed e.started in
+    let p = pops (g.C.Container.positions c.args.entries.now) M c.args.self.now.start _ f c.in_ok-popped.was (sym e.answer) e.placed e.started in
     record {
       answer = p.answer;
       placed = p.placed;

@@ -4,11 +4,11 @@ use Rattle.std.proofs.lemmas.Bool.{false≢true, both_ways}
 use Rattle.linked_list.proofs.Removing.{Removed, removes, refused_list, listed_can}
 use Rattle.linked_list.proofs.list.LinkedList.remove.Goals as goal
 
-pub returns-then-not-can-remove : goal.returns-then-not-can-remove
-returns-then-not-can-remove g c =
+pub returns-then-not-can_remove : goal.returns-then-not-can_remove
+returns-then-not-can_remove g c =
     let L = g.C.Container.positions c.args.entries.now in
     let s = c.args.self.now.start in
-    let can : false ≡ can_remove L s c.args.i = c.if-not-can-remove.ensures in
+    let can : false ≡ can_remove L s c.args.i = c.if-not-can_remove.ensures in
     record {
       answer = can;
       placed = refl;
@@ -27,13 +27,13 @@ pub returns : goal.returns
 returns g c =
     let L = g.C.Container.positions c.args.entries.now in
     let s = c.args.self.now.start in
-    let can : true ≡ can_remove L s c.args.i = c.if-not-can-remove.ensures in
-    let p = removes L _ s _ c.args.i (sym can) c.take-out.ensures.placed c.take-out.ensures.started in
+    let can : true ≡ can_remove L s c.args.i = c.if-not-can_remove.ensures in
+    let p = removes L _ s _ c.args.i (sym can) c.take_out.ensures.placed c.take_out.ensures.started in
     record {
       answer = can;
-      placed = c.take-out.ensures.placed;
-      started = c.take-out.ensures.started;
-      kept = c.take-out.ensures.kept;
+      placed = c.take_out.ensures.placed;
+      started = c.take_out.ensures.started;
+      kept = c.take_out.ensures.kept;
       granted = λ _ _ _. refl;
       listed = p.listed;
       others = p.others;

@@ -4,11 +4,11 @@ use Rattle.std.proofs.lemmas.Bool.{false≢true, both_ways}
 use Rattle.linked_list.proofs.Swapping.{Swapped, swaps, listed_can_swap}
 use Rattle.linked_list.proofs.list.LinkedList.swap_remove.Goals as goal
 
-pub returns-then-not-can-swap : goal.returns-then-not-can-swap
-returns-then-not-can-swap g c =
+pub returns-then-not-can_swap : goal.returns-then-not-can_swap
+returns-then-not-can_swap g c =
     let L = g.C.Container.positions c.args.entries.now in
     let s = c.args.self.now.start in
-    let can : false ≡ can_swap L s c.args.i = c.if-not-can-swap.ensures in
+    let can : false ≡ can_swap L s c.args.i = c.if-not-can_swap.ensures in
     record {
       answer = can;
       placed = refl;
@@ -27,13 +27,13 @@ pub returns : goal.returns
 returns g c =
     let L = g.C.Container.positions c.args.entries.now in
     let s = c.args.self.now.start in
-    let can : true ≡ can_swap L s c.args.i = c.if-not-can-swap.ensures in
-    let p = swaps L _ s _ c.args.i (sym can) c.move-front.ensures.placed c.move-front.ensures.started in
+    let can : true ≡ can_swap L s c.args.i = c.if-not-can_swap.ensures in
+    let p = swaps L _ s _ c.args.i (sym can) c.move_front.ensures.placed c.move_front.ensures.started in
     record {
       answer = can;
-      placed = c.move-front.ensures.placed;
-      started = c.move-front.ensures.started;
-      kept = c.move-front.ensures.kept;
+      placed = c.move_front.ensures.placed;
+      started = c.move_front.ensures.started;
+      kept = c.move_front.ensures.kept;
       granted = λ _ _ _. refl;
       listed = λ _. p.listed;
       others = p.others;

@@ -5,7 +5,7 @@ use Rattle.linked_list.proofs.list.LinkedList.take_out.Goals as goal
 pub returns : goal.returns
 returns g c =
     record {
-      placed = out_written _ _ _ _ c.args.i _ _ _ c.position-position.ensures c.prev-prev.ensures c.next-next.ensures c.set-next.ensures.placed c.set-prev.ensures.placed c.set-position.ensures.placed;
-      started = out_started _ c.args.self.now.start _ c.args.i _ _ c.position-position.ensures c.next-next.ensures c.moved-start-self.ensures;
-      kept = c.set-position.ensures.kept ∙ c.set-prev.ensures.kept ∙ c.set-next.ensures.kept;
+      placed = out_written _ _ _ _ c.args.i _ _ _ c.position-position.ensures c.prev-prev.ensures c.next-next.ensures c.set_next.ensures.placed c.set_prev.ensures.placed c.set_position.ensures.placed;
+      started = out_started _ c.args.self.now.start _ c.args.i _ _ c.position-position.ensures c.next-next.ensures c.moved_start-self.ensures;
+      kept = c.set_position.ensures.kept ∙ c.set_prev.ensures.kept ∙ c.set_next.ensures.kept;
     }
