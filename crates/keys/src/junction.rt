@@ -1,5 +1,5 @@
 ghost use Rattle.std.specs.Prelude.{◌≡◌, ◌^◌, ◌<◌};
-ghost use Rattle.std.proofs.Common.{rules};
+ghost use Rattle.std.proofs.Common.{rules, arith};
 
 use crate::key::{Key, NodeKey};
 use crate::node_index::NodeIndex;
@@ -30,7 +30,7 @@ impl Key for Junction {
 
     ghost small = { Prim.search rules };
 
-    ghost apart = { Prim.search rules };
+    ghost apart = { Prim.grind (arith, Self.row.coded.inj) };
 
     fn number(&self) -> u64 {
         self.get() as u64
@@ -42,7 +42,7 @@ impl NodeKey for Junction {
 
     ghost narrow = { Prim.search rules };
 
-    ghost differs = { Prim.search rules };
+    ghost differs = { Prim.grind (arith, Self.row.coded.inj) };
 
     ghost numbered = { Prim.search rules };
 

@@ -1,7 +1,7 @@
 ghost use Rattle.std.specs.Prelude.{◌≡◌, ℕ, ◌+◌, ◌*◌, ◌^◌, ◌<◌, true, false, Ok, Err};
 ghost use Rattle.fault.specs.declared.Fault.TheVariants.{LaneRange};
 ghost use Rattle.keys.specs.Numbers.{lane_index, lane_in_range};
-ghost use Rattle.std.proofs.Common.{rules};
+ghost use Rattle.std.proofs.Common.{rules, arith};
 
 use crate::key::{Key, NodeKey};
 use crate::node_index::NodeIndex;
@@ -69,7 +69,7 @@ impl Key for LaneAddress {
 
     ghost small = { Prim.search rules };
 
-    ghost apart = { Prim.search rules };
+    ghost apart = { Prim.grind (arith, Self.row.coded.inj) };
 
     fn number(&self) -> u64 {
         self.packed() as u64
@@ -81,7 +81,7 @@ impl NodeKey for LaneAddress {
 
     ghost narrow = { Prim.search rules };
 
-    ghost differs = { Prim.search rules };
+    ghost differs = { Prim.grind (arith, Self.row.coded.inj) };
 
     ghost numbered = { Prim.search rules };
 

@@ -1,5 +1,5 @@
 ghost use Rattle.std.specs.Prelude.{◌≡◌, ◌^◌, ◌<◌};
-ghost use Rattle.std.proofs.Common.{rules};
+ghost use Rattle.std.proofs.Common.{rules, arith};
 
 use crate::key::{Key, NodeKey};
 
@@ -29,7 +29,7 @@ impl Key for NodeIndex {
 
     ghost small = { Prim.search rules };
 
-    ghost apart = { Prim.search rules };
+    ghost apart = { Prim.grind (arith, Self.row.coded.inj) };
 
     fn number(&self) -> u64 {
         self.get() as u64
@@ -41,7 +41,7 @@ impl NodeKey for NodeIndex {
 
     ghost narrow = { Prim.search rules };
 
-    ghost differs = { Prim.search rules };
+    ghost differs = { Prim.grind (arith, Self.row.coded.inj) };
 
     ghost numbered = { Prim.search rules };
 
