@@ -7,17 +7,17 @@ use Rattle.keyed_table.proofs.chains.link.Goals as goal
 pub returns : goal.returns
 returns g c =
     let n = length-map c.args.slots.now (λ s. s.item) in
-    let b = c.bucket-of-b.result in
-    let q = c.gap-at-g.result.over in
-    let x = c.gap-at-g.result.at in
+    let b = c.bucket_of-b.result in
+    let q = c.gap_at-g.result.over in
+    let x = c.gap_at-g.result.at in
     let i = c.args.i in
-    let bk : c.bucket-of-b.result ≡ bucket (length (items c.args.slots.now)) c.args.e.number = c.bucket-of-b.ensures ∙ ap (λ z. bucket z c.args.e.number) (sym n) in
-    let ei : items c.lead.new.slots ≡ set (items c.args.slots.now) i (Some c.args.e) = c.lead.ensures.items ∙ c.set-next.ensures.items ∙ c.set-item.ensures.items in
+    let bk : c.bucket_of-b.result ≡ bucket (length (items c.args.slots.now)) c.args.e.number = c.bucket_of-b.ensures ∙ ap (λ z. bucket z c.args.e.number) (sym n) in
+    let ei : items c.lead.new.slots ≡ set (items c.args.slots.now) i (Some c.args.e) = c.lead.ensures.items ∙ c.set_next.ensures.items ∙ c.set_item.ensures.items in
     record {
       linked = λ l r free.
           let lt = bucket_lt (length (items c.args.slots.now)) c.args.e.number (omega arith) in
-          link_in c.args.slots.now c.lead.new.slots i b q x (i + 1) l r refl c.args.e bk free (c.gap-at-g.ensures l (omega arith) (omega arith)) ei
-          (c.lead.ensures.heads ∙ ap (heads_to b q (i + 1)) (c.set-next.ensures.heads ∙ c.set-item.ensures.heads))
-          (c.lead.ensures.nexts ∙ ap (nexts_to q (i + 1)) (c.set-next.ensures.nexts ∙ ap (λ z. set z i x) c.set-item.ensures.nexts));
+          link_in c.args.slots.now c.lead.new.slots i b q x (i + 1) l r refl c.args.e bk free (c.gap_at-g.ensures l (omega arith) (omega arith)) ei
+          (c.lead.ensures.heads ∙ ap (heads_to b q (i + 1)) (c.set_next.ensures.heads ∙ c.set_item.ensures.heads))
+          (c.lead.ensures.nexts ∙ ap (nexts_to q (i + 1)) (c.set_next.ensures.nexts ∙ ap (λ z. set z i x) c.set_item.ensures.nexts));
       items = ei;
     }

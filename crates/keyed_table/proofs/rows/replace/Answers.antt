@@ -5,10 +5,10 @@ use Rattle.keyed_table.proofs.rows.replace.Goals as goal
 
 pub returns : goal.returns
 returns g c =
-    let ei : items c.set-item.new.slots ≡ set (items c.args.slots.now) c.args.i (revalued c.args.value (get_or (items c.args.slots.now) c.args.i None))
-    = c.set-item.ensures.items ∙ ap (set (items c.args.slots.now) c.args.i) (c.with-value.ensures ∙ ap (revalued c.args.value) c.item-at-old.ensures) in
+    let ei : items c.set_item.new.slots ≡ set (items c.args.slots.now) c.args.i (revalued c.args.value (get_or (items c.args.slots.now) c.args.i None))
+    = c.set_item.ensures.items ∙ ap (set (items c.args.slots.now) c.args.i) (c.with_value.ensures ∙ ap (revalued c.args.value) c.item_at-old.ensures) in
     record {
-      linked = λ l. revalue c.args.slots.now c.set-item.new.slots c.args.i c.args.value l ei c.set-item.ensures.heads c.set-item.ensures.nexts;
+      linked = λ l. revalue c.args.slots.now c.set_item.new.slots c.args.i c.args.value l ei c.set_item.ensures.heads c.set_item.ensures.nexts;
       items = ei;
-      answer = c.value-in.ensures ∙ ap value_in c.item-at-old.ensures;
+      answer = c.value_in.ensures ∙ ap value_in c.item_at-old.ensures;
     }

@@ -19,16 +19,16 @@ returns-in-Some g c =
           (end_range es ds fs i m c.if-i-last.true r c.unlink.ensures.items c.unlink-in-Some.ensures.items)
           (end_free es ds fs i m c.if-i-last.true r c.unlink.ensures.items c.unlink-in-Some.ensures.items);
       items = λ filled r j. ap (λ z. get_or z j None) (c.link.ensures.items ∙ ap (λ z. set z i (Some c.in-Some.e)) (c.unlink-in-Some.ensures.items ∙ ap (λ z. set z m None) c.unlink.ensures.items))
-          ∙ out_low es i m filled low r (Some c.in-Some.e) (sym c.in-Some.is ∙ c.item-at-moved.ensures) c.if-i-last.true j;
+          ∙ out_low es i m filled low r (Some c.in-Some.e) (sym c.in-Some.is ∙ c.item_at-moved.ensures) c.if-i-last.true j;
     }
 
-pub returns-in-default : goal.returns-in-default
-returns-in-default g c =
+pub returns-in_default : goal.returns-in_default
+returns-in_default g c =
     let es = items c.args.slots.now in
     let low = c.requires.0 in
     record {
       linked = λ l r. c.unlink.ensures.linked l (omega arith);
-      items = λ filled r. absurd (last_there es c.args.i c.args.last filled low r (sym c.in-default.is ∙ c.item-at-moved.ensures));
+      items = λ filled r. absurd (last_there es c.args.i c.args.last filled low r (sym c.in_default.is ∙ c.item_at-moved.ensures));
     }
 
 pub returns-else-i-last : goal.returns-else-i-last

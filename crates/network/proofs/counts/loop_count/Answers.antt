@@ -10,10 +10,10 @@ loop-position-preserved g c =
     let index = g.S.Node.NodeKey.index in
     let arcs = g.S.ArcSource.arcs c.args.source.now in
     let i = c.loop-position.position in
-    elim c.match-arc-at.branch [
-      | goal.in-Some+then-is-loop w ↦ let e = loops_more index arcs i w.in-Some.arc true w.in-Some.ensures w.if-is-loop.ensures in let n = w.loops-is in (omega arith, omega arith)
-      | goal.in-Some+else-is-loop w ↦ let e = loops_more index arcs i w.in-Some.arc false w.in-Some.ensures w.if-is-loop.ensures in let n = w.loops-is in (omega arith, omega arith)
-      | goal.in-default w ↦ absurd (let l = nth_some arcs i w.in-default.ensures in omega arith)
+    elim c.match-arc_at.branch [
+      | goal.in-Some+then-is_loop w ↦ let e = loops_more index arcs i w.in-Some.arc true w.in-Some.ensures w.if-is_loop.ensures in let n = w.loops-is in (omega arith, omega arith)
+      | goal.in-Some+else-is_loop w ↦ let e = loops_more index arcs i w.in-Some.arc false w.in-Some.ensures w.if-is_loop.ensures in let n = w.loops-is in (omega arith, omega arith)
+      | goal.in_default w ↦ absurd (let l = nth_some arcs i w.in_default.ensures in omega arith)
     ]
 
 pub returns : goal.returns

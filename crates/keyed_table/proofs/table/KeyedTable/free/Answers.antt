@@ -7,6 +7,6 @@ returns g c =
     λ h.
     let t = c.args.self.now in
     let l = count t.slots.now t.len h in
-    let r = c.room-of.ensures in
-    let e = c.saturating-sub.ensures in
+    let r = c.room_of.ensures in
+    let e = c.saturating_sub.ensures in
     omega arith

@@ -7,7 +7,7 @@ pub returns-in-Some : goal.returns-in-Some
 returns-in-Some g c =
     λ h.
     let t = c.args.self.now in
-    c.value-in.ensures ∙ ap value_in c.item.ensures ∙ value_there t.slots.now t.len h (g.K.Key.code c.args.key.now) c.in-Some.i (c.in-Some.ensures h)
+    c.value_in.ensures ∙ ap value_in c.item.ensures ∙ value_there t.slots.now t.len h (g.K.Key.code c.args.key.now) c.in-Some.i (c.in-Some.ensures h)
 
 pub returns-in-None : goal.returns-in-None
 returns-in-None g c =

@@ -23,8 +23,8 @@ returns-in-Some g c =
       size = same_size s u i _ is;
     }
 
-pub returns-then-n-room-of : goal.returns-then-n-room-of
-returns-then-n-room-of g c =
+pub returns-then-n-room_of : goal.returns-then-n-room_of
+returns-then-n-room_of g c =
     let t = c.args.self.now in
     let s = t.slots.now in
     let u = c.link.new.slots in
@@ -34,8 +34,8 @@ returns-then-n-room-of g c =
     let k = c.number-number.result in
     let e = c.number-number.ensures in
     let r = room_of (length s) in
-    let ro = c.room-of.ensures in
-    let lt = c.if-n-room-of.true in
+    let ro = c.room_of.ensures in
+    let lt = c.if-n-room_of.true in
     let h0 : t.len < room_of (length c.args.self.now.slots.now) = omega arith in
     let m = length-map s (λ z. z.item) in
     let inside : t.len < length (items c.args.self.now.slots.now) = omega arith in
@@ -46,8 +46,8 @@ returns-then-n-room-of g c =
       size = same_size s u t.len _ is;
     }
 
-pub returns-else-n-room-of : goal.returns-else-n-room-of
-returns-else-n-room-of g c =
+pub returns-else-n-room_of : goal.returns-else-n-room_of
+returns-else-n-room_of g c =
     let t = c.args.self.now in
     let s = t.slots.now in
     let key = c.args.key in
@@ -55,8 +55,8 @@ returns-else-n-room-of g c =
     let k = c.number-number.result in
     let e = c.number-number.ensures in
     let r = room_of (length s) in
-    let ro = c.room-of.ensures in
-    let le = c.if-n-room-of.false in
+    let ro = c.room_of.ensures in
+    let le = c.if-n-room_of.false in
     let h0 : room_of (length c.args.self.now.slots.now) ≤ t.len = omega arith in
     record {
       intact = λ h. h;

@@ -5,6 +5,6 @@ use Rattle.keyed_table.proofs.table.KeyedTable.new.Goals as goal
 
 pub returns : goal.returns
 returns g c =
-    let s = c.blank-all.new.slots in
+    let s = c.blank_all.new.slots in
     let n = length c.args.slots.now in
-    record { intact = kept_blank s n c.blank-all.ensures; listing = refl; places = c.blank-all.ensures; room = ap room_of (blank_size s n c.blank-all.ensures) }
+    record { intact = kept_blank s n c.blank_all.ensures; listing = refl; places = c.blank_all.ensures; room = ap room_of (blank_size s n c.blank_all.ensures) }
