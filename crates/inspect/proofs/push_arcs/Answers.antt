@@ -4,17 +4,17 @@ use Rattle.network_file.specs.Reading.{arcs_of}
 use Rattle.inspect.specs.Report.{arc_line}
 use Rattle.inspect.proofs.Pushes.{joined_found, never_absent}
 use Rattle.inspect.proofs.push_arcs.Goals as goal
-use Rattle.inspect.proofs.push_arcs.Goals.{in-Some+in-ok-push-line, in-default}
+use Rattle.inspect.proofs.push_arcs.Goals.{in-Some+in_ok-push_line, in_default}
 
 pub loop-position-preserved : goal.loop-position-preserved
 loop-position-preserved c =
-    elim c.match-arc-at.branch [
-      | in-Some+in-ok-push-line w ↦
-          joined_found arc_line (vec_items c.args.text.now) (vec_items c.loop-position.text) (vec_items c.match-arc-at.text) (arcs_of c.args.file.bytes.now) c.loop-position.position
-          w.in-Some.arc (omega (arith, c.arc-count-position-end.ensures)) w.in-Some.ensures c.loop-position.invariant (ap vec_items w.text-is ∙ w.in-ok-push-line.ensures)
-      | in-default w ↦
-          absurd (never_absent (arcs_of c.args.file.bytes.now) c.loop-position.position (record { source = 0; target = 0; weight = 0 }) (omega (arith, c.arc-count-position-end.ensures)) w.in-default.ensures)
+    elim c.match-arc_at.branch [
+      | in-Some+in_ok-push_line w ↦
+          joined_found arc_line (vec_items c.args.text.now) (vec_items c.loop-position.text) (vec_items c.match-arc_at.text) (arcs_of c.args.file.bytes.now) c.loop-position.position
+          w.in-Some.arc (omega (arith, c.arc_count-position-end.ensures)) w.in-Some.ensures c.loop-position.invariant (ap vec_items w.text-is ∙ w.in_ok-push_line.ensures)
+      | in_default w ↦
+          absurd (never_absent (arcs_of c.args.file.bytes.now) c.loop-position.position (record { source = 0; target = 0; weight = 0 }) (omega (arith, c.arc_count-position-end.ensures)) w.in_default.ensures)
     ]
 
 pub returns : goal.returns
-returns c = rw (take_all c.loop-position.position (arcs_of c.args.file.bytes.now) (omega (arith, c.arc-count-position-end.ensures))) at c.loop-position.invariant
+returns c = rw (take_all c.loop-position.position (arcs_of c.args.file.bytes.now) (omega (arith, c.arc_count-position-end.ensures))) at c.loop-position.invariant

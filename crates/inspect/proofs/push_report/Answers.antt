@@ -4,20 +4,20 @@ use Rattle.network_file.specs.Reading.{contents_of}
 use Rattle.inspect.proofs.Pushes.{report_whole}
 use Rattle.inspect.proofs.push_report.Goals as goal
 
-pub returns-in-ok-push-contents : goal.returns-in-ok-push-contents
-returns-in-ok-push-contents c =
+pub returns-in_ok-push_contents : goal.returns-in_ok-push_contents
+returns-in_ok-push_contents c =
     let answer = c.in-Ok.ensures.answer in (
-      report_whole (vec_items c.args.text.now) (vec_items c.extend-from-slice.new.self) (vec_items c.push-number.new.text) (vec_items c.extend-from-slice-2.new.self)
-          (vec_items c.push-contents.new.text) c.args.bytes.now (Ok (contents_of c.in-Ok.file.bytes.now)) answer.1
-          c.in-ok-extend-from-slice.ensures.items c.in-ok-push-number.ensures c.in-ok-extend-from-slice-2.ensures.items c.in-ok-push-contents.ensures,
+      report_whole (vec_items c.args.text.now) (vec_items c.extend_from_slice.new.self) (vec_items c.push_number.new.text) (vec_items c.extend_from_slice-2.new.self)
+          (vec_items c.push_contents.new.text) c.args.bytes.now (Ok (contents_of c.in-Ok.file.bytes.now)) answer.1
+          c.in_ok-extend_from_slice.ensures.items c.in_ok-push_number.ensures c.in_ok-extend_from_slice-2.ensures.items c.in_ok-push_contents.ensures,
       sym (ap is_ok answer.1),
     )
 
-pub returns-in-ok-push-refusal : goal.returns-in-ok-push-refusal
-returns-in-ok-push-refusal c =
+pub returns-in_ok-push_refusal : goal.returns-in_ok-push_refusal
+returns-in_ok-push_refusal c =
     let answer = c.in-Err.ensures.answer in (
-      report_whole (vec_items c.args.text.now) (vec_items c.extend-from-slice.new.self) (vec_items c.push-number.new.text) (vec_items c.extend-from-slice-2.new.self)
-          (vec_items c.push-refusal.new.text) c.args.bytes.now (Err c.in-Err.fault) answer
-          c.in-ok-extend-from-slice.ensures.items c.in-ok-push-number.ensures c.in-ok-extend-from-slice-2.ensures.items c.in-ok-push-refusal.ensures,
+      report_whole (vec_items c.args.text.now) (vec_items c.extend_from_slice.new.self) (vec_items c.push_number.new.text) (vec_items c.extend_from_slice-2.new.self)
+          (vec_items c.push_refusal.new.text) c.args.bytes.now (Err c.in-Err.fault) answer
+          c.in_ok-extend_from_slice.ensures.items c.in_ok-push_number.ensures c.in_ok-extend_from_slice-2.ensures.items c.in_ok-push_refusal.ensures,
       sym (ap is_ok answer),
     )

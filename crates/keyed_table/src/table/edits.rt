@@ -36,8 +36,8 @@ impl<'a, K: Key, V: Copy> KeyedTable<'a, K, V> {
     /// answer; a new key comes last. Without a place for it the answer is `Full`, and nothing has changed.
     pub fn insert(&mut self, key: K, value: V) -> Result<Option<V>, Full>
         ensures intact { Intact self.old → Intact self.new }
-        ensures answer { Intact self.old → result ≡ insert_answer (room self.old) (code key) (listing self.old) }
-        ensures listing { Intact self.old → listing self.new ≡ inserted (room self.old) (code key) key value (listing self.old) }
+        ensures answer { Intact self.old → result ≡ insert_answer (room self.old) (K.code key) (listing self.old) }
+        ensures listing { Intact self.old → listing self.new ≡ inserted (room self.old) (K.code key) key value (listing self.old) }
         ensures size { length (places self.new) ≡ length (places self.old) }
     {
         let number = key.number();
@@ -74,8 +74,8 @@ impl<'a, K: Key, V: Copy> KeyedTable<'a, K, V> {
     /// Takes the key out and answers its value. The last item moves into the gap.
     pub fn swap_remove(&mut self, key: &K) -> Option<V>
         ensures intact { Intact self.old → Intact self.new }
-        ensures answer { Intact self.old → result ≡ value_at (code key.now) (listing self.old) }
-        ensures listing { Intact self.old → listing self.new ≡ without (code key.now) (listing self.old) }
+        ensures answer { Intact self.old → result ≡ value_at (K.code key.now) (listing self.old) }
+        ensures listing { Intact self.old → listing self.new ≡ without (K.code key.now) (listing self.old) }
         ensures size { length (places self.new) ≡ length (places self.old) }
     {
         match self.place(key.number()) {

@@ -43,14 +43,14 @@ impl<'a, K: Key, V: Copy> KeyedTable<'a, K, V> {
 
     /// The position of the key: below 2^32.
     pub fn position(&self, key: &K) -> Option<u32>
-        ensures { Intact self.now → result ≡ found (code key.now) (listing self.now) }
+        ensures { Intact self.now → result ≡ found (K.code key.now) (listing self.now) }
     {
         self.place(key.number())
     }
 
     /// Whether the key is there.
     pub fn contains(&self, key: &K) -> bool
-        ensures { Intact self.now → result ≡ has (code key.now) (listing self.now) }
+        ensures { Intact self.now → result ≡ has (K.code key.now) (listing self.now) }
     {
         match self.position(key) {
             Some(_) => true,
@@ -60,7 +60,7 @@ impl<'a, K: Key, V: Copy> KeyedTable<'a, K, V> {
 
     /// The value of the key.
     pub fn get(&self, key: &K) -> Option<V>
-        ensures { Intact self.now → result ≡ value_at (code key.now) (listing self.now) }
+        ensures { Intact self.now → result ≡ value_at (K.code key.now) (listing self.now) }
     {
         match self.position(key) {
             Some(i) => value_in(self.item(i)),
