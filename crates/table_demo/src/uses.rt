@@ -14,7 +14,7 @@ pub fn left_at_other<K: Key>(
     first: u32,
     second: u32,
 ) -> Option<u32>
-    ensures { result ≡ value_at (code other) (without (code key) (inserted (room_of (length slots.old)) (code other) other second (inserted (room_of (length slots.old)) (code key) key first []))) }
+    ensures { result ≡ value_at (K.code other) (without (K.code key) (inserted (room_of (length slots.old)) (K.code other) other second (inserted (room_of (length slots.old)) (K.code key) key first []))) }
 {
     let mut table = KeyedTable::new(slots);
     let _ = table.insert(key, first);

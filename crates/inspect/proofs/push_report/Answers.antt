@@ -4,8 +4,8 @@ use Rattle.network_file.specs.Reading.{contents_of}
 use Rattle.inspect.proofs.Pushes.{report_whole}
 use Rattle.inspect.proofs.push_report.Goals as goal
 
-pub returns-in_ok-push_contents : goal.returns-in_ok-push_contents
-returns-in_ok-push_contents c =
+pub returns-in_ok-push_contents-in-Ok : goal.returns-in_ok-push_contents-in-Ok
+returns-in_ok-push_contents-in-Ok c =
     let answer = c.in-Ok.ensures.answer in (
       report_whole (vec_items c.args.text.now) (vec_items c.extend_from_slice.new.self) (vec_items c.push_number.new.text) (vec_items c.extend_from_slice-2.new.self)
           (vec_items c.push_contents.new.text) c.args.bytes.now (Ok (contents_of c.in-Ok.file.bytes.now)) answer.1
@@ -13,8 +13,8 @@ returns-in_ok-push_contents c =
       sym (ap is_ok answer.1),
     )
 
-pub returns-in_ok-push_refusal : goal.returns-in_ok-push_refusal
-returns-in_ok-push_refusal c =
+pub returns-in_ok-push_refusal-in-Err : goal.returns-in_ok-push_refusal-in-Err
+returns-in_ok-push_refusal-in-Err c =
     let answer = c.in-Err.ensures.answer in (
       report_whole (vec_items c.args.text.now) (vec_items c.extend_from_slice.new.self) (vec_items c.push_number.new.text) (vec_items c.extend_from_slice-2.new.self)
           (vec_items c.push_refusal.new.text) c.args.bytes.now (Err c.in-Err.fault) answer

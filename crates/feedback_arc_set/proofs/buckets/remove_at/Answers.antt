@@ -8,7 +8,7 @@ returns c =
     let p = c.remove.ensures in
     record {
       filed = λ D us d m f.
-          remove_filed (columns c.args.nodes.now).positions (columns c.remove.new.entries).positions D (starts_of c.args.places.now) (starts_of c.set-list.new.places) us c.args.class c.args.ix.value c.get.result c.list-at-rest.result.start c.remove.new.self.start c.remove.result
-          c.list-at-rest.ensures c.get.ensures c.set-list.ensures p.granted p.listed p.others p.freed p.status d m f;
+          remove_filed (columns c.args.nodes.now).positions (columns c.remove.new.entries).positions D (starts_of c.args.places.now) (starts_of c.set_list.new.places) us c.args.class c.args.ix.value c.get.result c.list_at-rest.result.start c.remove.new.self.start c.remove.result
+          c.list_at-rest.ensures c.get.ensures c.set_list.ensures p.granted p.listed p.others p.freed p.status d m f;
       kept = p.kept;
     }

@@ -20,18 +20,18 @@ loop-i-init g c =
       (λ h. h),
     )
 
-pub returns-in-default : goal.returns-in-default
-returns-in-default g c = absurd (let l = arc_there (g.S.ArcSource.arcs c.args.source.now) c.loop-i.i c.in-default.ensures in let n = c.requires.count.0 in let b = c.loop-i-test.true in omega arith)
+pub returns-in_default : goal.returns-in_default
+returns-in_default g c = absurd (let l = arc_there (g.S.ArcSource.arcs c.args.source.now) c.loop-i.i c.in_default.ensures in let n = c.requires.count.0 in let b = c.loop-i-test.true in omega arith)
 
-pub returns-then-not-enter-arc : goal.returns-then-not-enter-arc
-returns-then-not-enter-arc g c =
+pub returns-then-not-enter_arc : goal.returns-then-not-enter_arc
+returns-then-not-enter_arc g c =
     let index = g.Node.NodeKey.index in
     let arcs = g.S.ArcSource.arcs c.args.source.now in
     let inv = c.loop-i.invariant in
-    let p = c.if-not-enter-arc.ensures in
+    let p = c.if-not-enter_arc.ensures in
     let n = links_long index arcs in
     let m = c.requires.count.0 in
-    let ends = link_read index arcs c.loop-i.i c.in-Some.arc c.in-Some.ensures ∙ sym (λ j. (c.node-index.ensures j, c.node-index-in-loop-i.ensures j)) in
+    let ends = link_read index arcs c.loop-i.i c.in-Some.arc c.in-Some.ensures ∙ sym (λ j. (c.node_index.ensures j, c.node_index-in-loop-i.ensures j)) in
     record {
       entered = λ z. absurd (false≢true z);
       refused = λ z. p.refused refl (links index arcs) (let b = c.loop-i-test.true in omega arith) ends inv.0.nodes_met;
@@ -44,10 +44,10 @@ loop-i-preserved g c =
     let index = g.Node.NodeKey.index in
     let arcs = g.S.ArcSource.arcs c.args.source.now in
     let inv = c.loop-i.invariant in
-    let p = c.if-not-enter-arc.ensures in
+    let p = c.if-not-enter_arc.ensures in
     let n = links_long index arcs in
     let m = c.requires.count.0 in
-    let ends = link_read index arcs c.loop-i.i c.in-Some.arc c.in-Some.ensures ∙ sym (λ j. (c.node-index.ensures j, c.node-index-in-loop-i.ensures j)) in (
+    let ends = link_read index arcs c.loop-i.i c.in-Some.arc c.in-Some.ensures ∙ sym (λ j. (c.node_index.ensures j, c.node_index-in-loop-i.ensures j)) in (
       p.entered refl (links index arcs) (let b = c.loop-i-test.true in omega arith) ends inv.0,
       p.few refl inv.1,
       (p.kept refl).0 inv.2,

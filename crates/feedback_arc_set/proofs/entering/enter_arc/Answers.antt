@@ -7,23 +7,23 @@ use Rattle.feedback_arc_set.proofs.Reading.{set_others, still_blank}
 use Rattle.feedback_arc_set.proofs.Finding.{refused_source, refused_target, arc_entered, places_written}
 use Rattle.feedback_arc_set.proofs.entering.enter_arc.Goals as goal
 
-pub returns-in-default : goal.returns-in-default
-returns-in-default c = record {
+pub returns-in_default : goal.returns-in_default
+returns-in_default c = record {
   entered = λ z. absurd (false≢true z);
   few = λ z. absurd (false≢true z);
   kept = λ z. absurd (false≢true z);
-  refused = λ z links l e m. refused_source links c.args.i c.args.source.value c.args.target.value l e c.args.most (met_of c.args.nodes.now) m c.in-default.ensures.met;
-  slots = c.in-default.ensures.slots;
+  refused = λ z links l e m. refused_source links c.args.i c.args.source.value c.args.target.value l e c.args.most (met_of c.args.nodes.now) m c.in_default.ensures.met;
+  slots = c.in_default.ensures.slots;
   blank = λ n b h. h;
 }
 
-pub returns-in-default-enter : goal.returns-in-default-enter
-returns-in-default-enter c = record {
+pub returns-in_default-enter : goal.returns-in_default-enter
+returns-in_default-enter c = record {
   entered = λ z. absurd (false≢true z);
   few = λ z. absurd (false≢true z);
   kept = λ z. absurd (false≢true z);
-  refused = λ z links l e m. refused_target links c.args.i c.args.source.value c.args.target.value l e c.args.most (met_of c.args.nodes.now) (met_of c.enter.new.self) m c.in-Some.ensures.met.0.met c.in-default-enter.ensures.met;
-  slots = c.in-default-enter.ensures.slots ∙ c.in-Some.ensures.slots;
+  refused = λ z links l e m. refused_target links c.args.i c.args.source.value c.args.target.value l e c.args.most (met_of c.args.nodes.now) (met_of c.enter.new.self) m c.in-Some.ensures.met.0.met c.in_default-enter.ensures.met;
+  slots = c.in_default-enter.ensures.slots ∙ c.in-Some.ensures.slots;
   blank = λ n b h. h;
 }
 
@@ -32,9 +32,9 @@ returns c =
     let p = c.in-Some.ensures.met in
     let q = c.in-Some-enter.ensures.met in
     let ps = c.args.neighbours.now in
-    let qs = c.set-neighbour.new.places in
-    let rs = c.set-neighbour-2.new.places in
-    let w = places_written ps qs rs (2 * c.args.i) (2 * c.args.i + 1) c.in-Some.source c.in-Some-enter.target c.set-neighbour.ensures c.set-neighbour-2.ensures in
+    let qs = c.set_neighbour.new.places in
+    let rs = c.set_neighbour-2.new.places in
+    let w = places_written ps qs rs (2 * c.args.i) (2 * c.args.i + 1) c.in-Some.source c.in-Some-enter.target c.set_neighbour.ensures c.set_neighbour-2.ensures in
     let k = length-map c.args.neighbours.now (λ v. v.node.value) in
     record {
       entered = λ z links l e h. arc_entered links c.args.i c.args.source.value c.args.target.value l e c.args.nodes.now c.enter.new.self c.enter-2.new.self (neighbours_of ps).nodes (neighbours_of rs).nodes c.in-Some.source.value c.in-Some-enter.target.value p.0 q.0 (let r = c.requires.room.0 in omega arith) w h;
@@ -43,6 +43,6 @@ returns c =
       refused = λ z. absurd (true≢false z);
       slots = c.in-Some-enter.ensures.slots ∙ c.in-Some.ensures.slots;
       blank = λ n b h.
-          still_blank qs rs (2 * c.args.i + 1) n (subst (λ v. SameButAt c.set-neighbour.new.places v (2 * c.args.i + 1)) (sym c.set-neighbour-2.ensures) (set_others qs (2 * c.args.i + 1) (neighbour_place c.in-Some.source))) (omega arith)
-          (still_blank ps qs (2 * c.args.i) n (subst (λ v. SameButAt c.args.neighbours.now v (2 * c.args.i)) (sym c.set-neighbour.ensures) (set_others ps (2 * c.args.i) (neighbour_place c.in-Some-enter.target))) (omega arith) h);
+          still_blank qs rs (2 * c.args.i + 1) n (subst (λ v. SameButAt c.set_neighbour.new.places v (2 * c.args.i + 1)) (sym c.set_neighbour-2.ensures) (set_others qs (2 * c.args.i + 1) (neighbour_place c.in-Some.source))) (omega arith)
+          (still_blank ps qs (2 * c.args.i) n (subst (λ v. SameButAt c.args.neighbours.now v (2 * c.args.i)) (sym c.set_neighbour.ensures) (set_others ps (2 * c.args.i) (neighbour_place c.in-Some-enter.target))) (omega arith) h);
     }

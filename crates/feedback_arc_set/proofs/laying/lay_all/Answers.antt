@@ -6,8 +6,8 @@ use Rattle.feedback_arc_set.specs.Nodes.{neighbours_of}
 use Rattle.feedback_arc_set.proofs.Reading.{same_names, names_long}
 use Rattle.feedback_arc_set.proofs.laying.lay_all.Goals as goal
 
-pub lay-arc-requires : goal.lay-arc-requires
-lay-arc-requires c =
+pub lay_arc-requires : goal.lay_arc-requires
+lay_arc-requires c =
     let inv = c.loop-i.invariant in
     let b = inv.0 in
     let few = c.requires.few in
@@ -32,15 +32,15 @@ pub loop-i-preserved : goal.loop-i-preserved
 loop-i-preserved c =
     let inv = c.loop-i.invariant in
     let b = inv.0 in
-    let l = c.lay-arc.ensures in
+    let l = c.lay_arc.ensures in
     let n = names_long c.loop-i.nodes c.args.nodes.now inv.4 in (
       omega arith,
-      laid_step (neighbours_of c.loop-i.neighbours) (neighbours_of c.lay-arc.new.neighbours) (columns c.loop-i.nodes) (columns c.lay-arc.new.nodes) (length (nodes_of c.args.nodes.now)) c.args.arcs c.loop-i.i c.loop-i-test.true b l.ends
-          (λ rest h. subst (λ v. Laid (neighbours_of c.lay-arc.new.neighbours) (columns c.lay-arc.new.nodes) v (2 * (c.loop-i.i - 1)) (link_at (neighbours_of c.loop-i.neighbours).nodes (c.loop-i.i - 1) ∷ rest)) n
+      laid_step (neighbours_of c.loop-i.neighbours) (neighbours_of c.lay_arc.new.neighbours) (columns c.loop-i.nodes) (columns c.lay_arc.new.nodes) (length (nodes_of c.args.nodes.now)) c.args.arcs c.loop-i.i c.loop-i-test.true b l.ends
+          (λ rest h. subst (λ v. Laid (neighbours_of c.lay_arc.new.neighbours) (columns c.lay_arc.new.nodes) v (2 * (c.loop-i.i - 1)) (link_at (neighbours_of c.loop-i.neighbours).nodes (c.loop-i.i - 1) ∷ rest)) n
           (l.laid rest (subst (λ v. Laid (neighbours_of c.loop-i.neighbours) (columns c.loop-i.nodes) v (2 * (c.loop-i.i - 1) + 2) rest) (sym n) h)))
           inv.1,
       l.ends ∙ inv.2,
       l.positions ∙ inv.3,
-      same_names c.lay-arc.new.nodes c.loop-i.nodes c.args.nodes.now l.names inv.4,
+      same_names c.lay_arc.new.nodes c.loop-i.nodes c.args.nodes.now l.names inv.4,
       λ h. l.blank (2 * c.args.arcs) (omega arith) (inv.5 h),
     )

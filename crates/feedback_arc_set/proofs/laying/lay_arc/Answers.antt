@@ -18,17 +18,17 @@ returns c =
     let n = length (nodes_of c.args.nodes.now) in
     let l1 = c.lead.ensures in
     let l2 = c.lead-2.ensures in
-    let a = c.node-at-source.result.value in
-    let b = c.node-at-target.result.value in
-    let ends : (c.node-at-source.result.value, c.node-at-target.result.value) ≡ link_at (neighbours_of c.args.neighbours.now).nodes c.args.i = λ j. (c.node-at-source.ensures j, c.node-at-target.ensures j) in
-    let ra : c.node-at-source.result.value < length (nodes_of c.args.nodes.now) = let e = c.node-at-source.ensures in let r = c.requires.ends.0 in omega arith in
-    let rb : c.node-at-target.result.value < length (nodes_of c.args.nodes.now) = let e = c.node-at-target.ensures in let r = c.requires.ends.1 in omega arith in
+    let a = c.node_at-source.result.value in
+    let b = c.node_at-target.result.value in
+    let ends : (c.node_at-source.result.value, c.node_at-target.result.value) ≡ link_at (neighbours_of c.args.neighbours.now).nodes c.args.i = λ j. (c.node_at-source.ensures j, c.node_at-target.ensures j) in
+    let ra : c.node_at-source.result.value < length (nodes_of c.args.nodes.now) = let e = c.node_at-source.ensures in let r = c.requires.ends.0 in omega arith in
+    let rb : c.node_at-target.result.value < length (nodes_of c.args.nodes.now) = let e = c.node_at-target.ensures in let r = c.requires.ends.1 in omega arith in
     let rp : 2 * c.args.i + 1 < length (neighbours_of c.args.neighbours.now).nodes = let k = length-map c.args.neighbours.now (λ q. q.node.value) in let r = c.requires.room.0 in omega arith in
     let even = length-map c.args.neighbours.now (λ q. q.next) ∙ sym (length-map c.args.neighbours.now (λ q. q.node.value)) in
     record {
       laid = λ arcs l.
           subst (λ v. Laid (neighbours_of c.lead-2.new.neighbours) (columns c.lead-2.new.nodes) (length (nodes_of c.args.nodes.now)) (2 * c.args.i) (v ∷ arcs)) ends
-          (laid_arc P P1 P2 t t1 t2 n (2 * c.args.i) a b (columns_sized (nodes_of c.args.nodes.now)) even ra rb rp (sym c.node-at-target.ensures) (sym c.node-at-source.ensures) l1.leads l1.led l2.leads l2.led arcs l);
+          (laid_arc P P1 P2 t t1 t2 n (2 * c.args.i) a b (columns_sized (nodes_of c.args.nodes.now)) even ra rb rp (sym c.node_at-target.ensures) (sym c.node_at-source.ensures) l1.leads l1.led l2.leads l2.led arcs l);
       ends = l2.leads.nodes ∙ l1.leads.nodes;
       blank = λ v b h. still_blank c.lead.new.neighbours c.lead-2.new.neighbours (2 * c.args.i + 1) v l2.others (omega arith) (still_blank c.args.neighbours.now c.lead.new.neighbours (2 * c.args.i) v l1.others (omega arith) h);
       positions = l2.led.positions ∙ l1.led.positions;

@@ -8,8 +8,8 @@ use Rattle.feedback_arc_set.specs.Nodes.{neighbours_of, blank_node}
 use Rattle.feedback_arc_set.proofs.Reading.{get_d_field, names_long, same_names}
 use Rattle.feedback_arc_set.proofs.laying.lay_out.Goals as goal
 
-pub lay-all-requires : goal.lay-all-requires
-lay-all-requires c =
+pub lay_all-requires : goal.lay_all-requires
+lay_all-requires c =
     let ns = nodes_of c.args.nodes.now in
     let b = c.requires.blank in
     record {
@@ -30,19 +30,19 @@ returns c =
     let ns = nodes_of c.args.nodes.now in
     let N = (neighbours_of c.args.neighbours.now).nodes in
     let E = links_from (neighbours_of c.args.neighbours.now).nodes 0 c.args.buckets.now.arcs in
-    let P = neighbours_of c.lay-all.new.neighbours in
-    let t = columns c.lay-all.new.nodes in
-    let u = columns c.file-all.new.nodes in
-    let l = c.lay-all.ensures in
-    let f = c.file-all.ensures in
+    let P = neighbours_of c.lay_all.new.neighbours in
+    let t = columns c.lay_all.new.nodes in
+    let u = columns c.file_all.new.nodes in
+    let l = c.lay_all.ensures in
+    let f = c.file_all.ensures in
     let n = c.requires.count in
     let w = c.requires.wide in
     let k = length_links (neighbours_of c.args.neighbours.now).nodes 0 c.args.buckets.now.arcs in
-    let long = names_long c.lay-all.new.nodes c.args.nodes.now l.names in
+    let long = names_long c.lay_all.new.nodes c.args.nodes.now l.names in
     let s = f.sizes.size in
-    let laid : Laid (neighbours_of c.lay-all.new.neighbours) (columns c.lay-all.new.nodes) c.args.count 0 (links_from (neighbours_of c.args.neighbours.now).nodes 0 c.args.buckets.now.arcs) = rw n l.laid in
+    let laid : Laid (neighbours_of c.lay_all.new.neighbours) (columns c.lay_all.new.nodes) c.args.count 0 (links_from (neighbours_of c.args.neighbours.now).nodes 0 c.args.buckets.now.arcs) = rw n l.laid in
     record {
-      stands = laid_stands P t u (starts c.file-all.new.buckets) E m c.args.count (omega arith)
+      stands = laid_stands P t u (starts c.file_all.new.buckets) E m c.args.count (omega arith)
           (ends_cover N m c.args.count 0 m (omega arith) (rw n c.requires.ends))
           (omega arith) laid
           (f.filed
@@ -52,6 +52,6 @@ returns c =
           (omega arith))
           f.kept;
       blank = l.blank;
-      names = same_names c.file-all.new.nodes c.lay-all.new.nodes c.args.nodes.now f.names l.names;
+      names = same_names c.file_all.new.nodes c.lay_all.new.nodes c.args.nodes.now f.names l.names;
       sizes = f.sizes;
     }

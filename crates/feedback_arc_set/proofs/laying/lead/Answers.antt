@@ -10,10 +10,10 @@ led-requires c = let d = degree_read c.args.direction (nodes_of c.args.nodes.now
 
 pub returns : goal.returns
 returns c = record {
-  leads = subst (LeadsTo (neighbours_of c.args.neighbours.now) (neighbours_of c.set-next.new.places) c.args.p)
-      (c.first.ensures ∙ first_read c.args.direction (nodes_of c.args.nodes.now) c.args.ix.value c.node-node.result c.node-node.ensures) c.set-next.ensures.leads;
-  others = c.set-next.ensures.others;
-  led = led_columns c.args.direction (nodes_of c.args.nodes.now) (nodes_of c.set-node.new.self) c.args.ix.value c.args.p c.node-node.result c.node-node.ensures
-      (c.set-node.ensures.written ∙ ap (set (nodes_of c.args.nodes.now) c.args.ix.value) c.led.ensures);
-  names = c.set-node.ensures.names;
+  leads = subst (LeadsTo (neighbours_of c.args.neighbours.now) (neighbours_of c.set_next.new.places) c.args.p)
+      (c.first.ensures ∙ first_read c.args.direction (nodes_of c.args.nodes.now) c.args.ix.value c.node-node.result c.node-node.ensures) c.set_next.ensures.leads;
+  others = c.set_next.ensures.others;
+  led = led_columns c.args.direction (nodes_of c.args.nodes.now) (nodes_of c.set_node.new.self) c.args.ix.value c.args.p c.node-node.result c.node-node.ensures
+      (c.set_node.ensures.written ∙ ap (set (nodes_of c.args.nodes.now) c.args.ix.value) c.led.ensures);
+  names = c.set_node.ensures.names;
 }

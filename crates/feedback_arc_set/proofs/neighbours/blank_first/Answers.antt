@@ -8,7 +8,7 @@ use Rattle.feedback_arc_set.proofs.neighbours.blank_first.Goals as goal
 pub loop-p-preserved : goal.loop-p-preserved
 loop-p-preserved c =
     let inv = c.loop-p.invariant in
-    let w = c.set-neighbour.ensures ∙ ap (λ n. set c.loop-p.places c.loop-p.p (neighbour_place n)) (fas_index_alike c.new.result blank_index c.new.ensures) in (
+    let w = c.set_neighbour.ensures ∙ ap (λ n. set c.loop-p.places c.loop-p.p (neighbour_place n)) (fas_index_alike c.new.result blank_index c.new.ensures) in (
       (λ h k l. ap (λ v. get_or v k blank_neighbour) w ∙ blank_set c.loop-p.places c.loop-p.p k blank_neighbour (inv.0 h k l)),
       below_more _ _
           (λ k l. ap (λ v. get_or v k blank_neighbour) w ∙ blank_set c.loop-p.places c.loop-p.p k blank_neighbour (inv.1 k l))

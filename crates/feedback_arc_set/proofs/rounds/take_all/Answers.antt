@@ -10,23 +10,23 @@ rounds-preserved c =
     let P = neighbours_of c.args.neighbours.now in
     let n0 = c.args.nodes.now in
     let n1 = c.rounds.nodes in
-    let n2 = c.take-sinks.new.nodes in
-    let n3 = c.take-sources.new.nodes in
-    let n4 = c.take-first.new.nodes in
+    let n2 = c.take_sinks.new.nodes in
+    let n3 = c.take_sources.new.nodes in
+    let n4 = c.take_first.new.nodes in
     let k1 = c.rounds.invariant.1 in
-    let k2 = c.take-sinks.ensures.names in
-    let k3 = same_names n3 n1 n0 (same_names n3 n2 n1 c.take-sources.ensures.names k2) k1 in
+    let k2 = c.take_sinks.ensures.names in
+    let k3 = same_names n3 n1 n0 (same_names n3 n2 n1 c.take_sources.ensures.names k2) k1 in
     let f = c.in-Some.ensures in
     let k4 = same_names n4 n3 n0 f.names k3 in
-    let p = c.push-head.ensures in (
+    let p = c.push_head.ensures in (
       λ arcs goal s.
-          best_again arcs P (key_in n0) goal n3 n4 c.take-sources.new.buckets _ c.take-first.new.self c.take-sources.new.halves c.room.result
-          c.best-class-class.ensures.above c.best-class-class.ensures.member refl refl c.push-head.new.nodes c.push-head.new.self c.in-Some.best.value
+          best_again arcs P (key_in n0) goal n3 n4 c.take_sources.new.buckets _ c.take_first.new.self c.take_sources.new.halves c.room.result
+          c.best_class-class.ensures.above c.best_class-class.ensures.member refl refl c.push_head.new.nodes c.push_head.new.self c.in-Some.best.value
           f.first f.room (same_key n4 n0 k4 c.in-Some.best.value) p.order p.written p.front p.back
-          (round_neither arcs P goal n0 n1 n2 n3 c.rounds.buckets c.take-sinks.new.buckets c.take-sources.new.buckets c.rounds.halves c.take-sinks.new.halves c.take-sources.new.halves k1 k2
-          (c.take-sinks.ensures.stage arcs goal) (c.take-sources.ensures.stage arcs goal) (c.rounds.invariant.0 arcs goal s)),
-      same_names c.push-head.new.nodes n4 n0 p.names k4,
-      record { classes = f.first.lender ∙ c.take-sources.ensures.lenders.classes ∙ c.take-sinks.ensures.lenders.classes ∙ c.rounds.invariant.2.classes; order = p.lender ∙ c.take-sources.ensures.lenders.order ∙ c.take-sinks.ensures.lenders.order ∙ c.rounds.invariant.2.order },
+          (round_neither arcs P goal n0 n1 n2 n3 c.rounds.buckets c.take_sinks.new.buckets c.take_sources.new.buckets c.rounds.halves c.take_sinks.new.halves c.take_sources.new.halves k1 k2
+          (c.take_sinks.ensures.stage arcs goal) (c.take_sources.ensures.stage arcs goal) (c.rounds.invariant.0 arcs goal s)),
+      same_names c.push_head.new.nodes n4 n0 p.names k4,
+      record { classes = f.first.lender ∙ c.take_sources.ensures.lenders.classes ∙ c.take_sinks.ensures.lenders.classes ∙ c.rounds.invariant.2.classes; order = p.lender ∙ c.take_sources.ensures.lenders.order ∙ c.take_sinks.ensures.lenders.order ∙ c.rounds.invariant.2.order },
     )
 
 pub returns : goal.returns
@@ -34,19 +34,19 @@ returns c =
     let P = neighbours_of c.args.neighbours.now in
     let n0 = c.args.nodes.now in
     let n1 = c.rounds.nodes in
-    let n2 = c.take-sinks.new.nodes in
-    let n3 = c.take-sources.new.nodes in
-    let n4 = c.take-first.new.nodes in
+    let n2 = c.take_sinks.new.nodes in
+    let n3 = c.take_sources.new.nodes in
+    let n4 = c.take_first.new.nodes in
     let k1 = c.rounds.invariant.1 in
-    let k2 = c.take-sinks.ensures.names in
-    let k3 = same_names n3 n1 n0 (same_names n3 n2 n1 c.take-sources.ensures.names k2) k1 in
+    let k2 = c.take_sinks.ensures.names in
+    let k3 = same_names n3 n1 n0 (same_names n3 n2 n1 c.take_sources.ensures.names k2) k1 in
     let f = c.in-None.ensures in
     record {
       ordered = λ arcs goal s.
-          best_over arcs P (key_in n0) goal n3 n4 c.take-sources.new.buckets _ c.take-first.new.self c.take-sources.new.halves c.room.result
-          c.best-class-class.ensures.above c.best-class-class.ensures.member refl refl f.first c.room.ensures
-          (round_neither arcs P goal n0 n1 n2 n3 c.rounds.buckets c.take-sinks.new.buckets c.take-sources.new.buckets c.rounds.halves c.take-sinks.new.halves c.take-sources.new.halves k1 k2
-          (c.take-sinks.ensures.stage arcs goal) (c.take-sources.ensures.stage arcs goal) (c.rounds.invariant.0 arcs goal s));
+          best_over arcs P (key_in n0) goal n3 n4 c.take_sources.new.buckets _ c.take_first.new.self c.take_sources.new.halves c.room.result
+          c.best_class-class.ensures.above c.best_class-class.ensures.member refl refl f.first c.room.ensures
+          (round_neither arcs P goal n0 n1 n2 n3 c.rounds.buckets c.take_sinks.new.buckets c.take_sources.new.buckets c.rounds.halves c.take_sinks.new.halves c.take_sources.new.halves k1 k2
+          (c.take_sinks.ensures.stage arcs goal) (c.take_sources.ensures.stage arcs goal) (c.rounds.invariant.0 arcs goal s));
       names = same_names n4 n3 n0 f.names k3;
-      lenders = record { classes = f.first.lender ∙ c.take-sources.ensures.lenders.classes ∙ c.take-sinks.ensures.lenders.classes ∙ c.rounds.invariant.2.classes; order = c.take-sources.ensures.lenders.order ∙ c.take-sinks.ensures.lenders.order ∙ c.rounds.invariant.2.order };
+      lenders = record { classes = f.first.lender ∙ c.take_sources.ensures.lenders.classes ∙ c.take_sinks.ensures.lenders.classes ∙ c.rounds.invariant.2.classes; order = c.take_sources.ensures.lenders.order ∙ c.take_sinks.ensures.lenders.order ∙ c.rounds.invariant.2.order };
     }

@@ -18,6 +18,6 @@ returns g c =
     let h0 = c.new-table.ensures.intact in
     let h1 = c.insert.ensures.intact h0 in
     let h2 = c.insert-2.ensures.intact h1 in
-    let h3 = c.swap-remove.ensures.intact h2 in
+    let h3 = c.swap_remove.ensures.intact h2 in
     four_calls (g.K.Key.code c.args.key) (g.K.Key.code c.args.other) (room_of (length c.args.slots.now)) _ _ c.args.key c.args.other c.args.first c.args.second _ _ _ _ _
-    c.new-table.ensures.room (ap room_of c.insert.ensures.size) c.new-table.ensures.listing (c.insert.ensures.listing h0) (c.insert-2.ensures.listing h1) (c.swap-remove.ensures.listing h2) (c.get.ensures h3)
+    c.new-table.ensures.room (ap room_of c.insert.ensures.size) c.new-table.ensures.listing (c.insert.ensures.listing h0) (c.insert-2.ensures.listing h1) (c.swap_remove.ensures.listing h2) (c.get.ensures h3)

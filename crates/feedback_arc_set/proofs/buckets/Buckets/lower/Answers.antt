@@ -6,10 +6,10 @@ use Rattle.feedback_arc_set.specs.Listed.{starts}
 use Rattle.feedback_arc_set.proofs.Reading.{lowered_columns, listed_read, unlisted_same, unlisted_names, unlisted_long, same_names, names_same, same_sizes, sizes_same}
 use Rattle.feedback_arc_set.proofs.buckets.Buckets.lower.Goals as goal
 
-pub returns-then-not-is-listed : goal.returns-then-not-is-listed
-returns-then-not-is-listed c = record {
+pub returns-then-not-is_listed : goal.returns-then-not-is_listed
+returns-then-not-is_listed c = record {
   lost = lost_taken c.args.direction c.args.self.now.arcs c.args.ix.value (columns c.args.nodes.now) (starts c.args.self.now)
-      (listed_read (nodes_of c.args.nodes.now) c.args.ix.value c.node.result _ c.node.ensures c.if-not-is-listed.ensures);
+      (listed_read (nodes_of c.args.nodes.now) c.args.ix.value c.node.result _ c.node.ensures c.if-not-is_listed.ensures);
   names = names_same c.args.nodes.now;
   sizes = sizes_same c.args.self.now;
 }
@@ -19,24 +19,24 @@ returns c =
     let m = c.args.self.now.arcs in
     let n0 = c.args.nodes.now in
     let n1 = c.remove.new.nodes in
-    let n2 = c.set-node.new.self in
-    let n3 = c.push-front.new.nodes in
+    let n2 = c.set_node.new.self in
+    let n3 = c.push_front.new.nodes in
     let s1 = c.remove.ensures.sizes in
-    let s2 = c.push-front.ensures.sizes in
+    let s2 = c.push_front.ensures.sizes in
     let k = c.remove.ensures.kept in
-    let w = lowered_columns c.args.direction (nodes_of c.remove.new.nodes) (nodes_of c.set-node.new.self) c.args.ix.value c.node-2.result c.node-2.ensures
-    (c.set-node.ensures.written ∙ ap (set (nodes_of c.remove.new.nodes) c.args.ix.value) c.lowered-node.ensures) in
+    let w = lowered_columns c.args.direction (nodes_of c.remove.new.nodes) (nodes_of c.set_node.new.self) c.args.ix.value c.node-2.result c.node-2.ensures
+    (c.set_node.ensures.written ∙ ap (set (nodes_of c.remove.new.nodes) c.args.ix.value) c.lowered-node.ensures) in
     record {
-      lost = lost_one c.args.direction c.args.self.now.arcs c.args.ix.value c.suitable-bucket-class.result c.suitable-bucket-class-2.result
+      lost = lost_one c.args.direction c.args.self.now.arcs c.args.ix.value c.suitable_bucket-class.result c.suitable_bucket-class-2.result
           (columns n0) (columns n1) (columns n2) (columns n3)
-          (starts c.args.self.now) (starts c.remove.new.self) (starts c.push-front.new.self)
+          (starts c.args.self.now) (starts c.remove.new.self) (starts c.push_front.new.self)
           c.remove.ensures.filed (unlisted_same n1 n0 k)
           w.positions w.falls w.other w.links
-          c.push-front.ensures.filed (unlisted_same n3 n2 c.push-front.ensures.kept)
-          c.suitable-bucket-class.ensures
-          (c.suitable-bucket-class-2.ensures ∙ ap (λ a. class_at a (columns c.set-node.new.self) c.args.ix.value) s1.arcs)
+          c.push_front.ensures.filed (unlisted_same n3 n2 c.push_front.ensures.kept)
+          c.suitable_bucket-class.ensures
+          (c.suitable_bucket-class-2.ensures ∙ ap (λ a. class_at a (columns c.set_node.new.self) c.args.ix.value) s1.arcs)
           s1.size (s2.size ∙ s1.size) (ap length w.positions ∙ unlisted_long n1 n0 k)
-          (listed_read (nodes_of c.args.nodes.now) c.args.ix.value c.node.result _ c.node.ensures c.if-not-is-listed.ensures);
-      names = same_names n3 n2 n0 (unlisted_names n3 n2 c.push-front.ensures.kept) (same_names n2 n1 n0 c.set-node.ensures.names (unlisted_names n1 n0 k));
-      sizes = same_sizes c.push-front.new.self c.remove.new.self c.args.self.now s2 s1;
+          (listed_read (nodes_of c.args.nodes.now) c.args.ix.value c.node.result _ c.node.ensures c.if-not-is_listed.ensures);
+      names = same_names n3 n2 n0 (unlisted_names n3 n2 c.push_front.ensures.kept) (same_names n2 n1 n0 c.set_node.ensures.names (unlisted_names n1 n0 k));
+      sizes = same_sizes c.push_front.new.self c.remove.new.self c.args.self.now s2 s1;
     }

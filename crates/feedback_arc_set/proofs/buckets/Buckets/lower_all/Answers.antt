@@ -13,17 +13,17 @@ loop-at-init c = (walked_none c.args.direction c.args.self.now.arcs (neighbours_
 
 pub loop-at-smaller : goal.loop-at-smaller
 loop-at-smaller c =
-    places_less (neighbours_of c.args.neighbours.now) c.loop-at.at c.next-at-at.result c.in-Some.p
-    (length-map c.args.neighbours.now (λ q. q.next) ∙ sym (length-map c.args.neighbours.now (λ q. q.node.value))) c.in-Some.is c.next-at-at.ensures
+    places_less (neighbours_of c.args.neighbours.now) c.loop-at.at c.next_at-at.result c.in-Some.p
+    (length-map c.args.neighbours.now (λ q. q.next) ∙ sym (length-map c.args.neighbours.now (λ q. q.node.value))) c.in-Some.is c.next_at-at.ensures
 
 pub loop-at-preserved : goal.loop-at-preserved
 loop-at-preserved c =
     let inv = c.loop-at.invariant in
     let e = c.lower.ensures in (
       walked_more c.args.direction c.args.self.now.arcs (neighbours_of c.args.neighbours.now) (columns c.args.nodes.now) (columns c.loop-at.nodes) (columns c.lower.new.nodes)
-          (starts c.args.self.now) (starts c.loop-at.self) (starts c.lower.new.self) c.args.from c.loop-at.at c.next-at-at.result c.in-Some.p c.node-at.result.value
-          c.in-Some.is c.node-at.ensures c.next-at-at.ensures
-          (subst (λ m. LostOne c.args.direction m (columns c.loop-at.nodes) (starts c.loop-at.self) (columns c.lower.new.nodes) (starts c.lower.new.self) c.node-at.result.value) inv.2.arcs e.lost)
+          (starts c.args.self.now) (starts c.loop-at.self) (starts c.lower.new.self) c.args.from c.loop-at.at c.next_at-at.result c.in-Some.p c.node_at.result.value
+          c.in-Some.is c.node_at.ensures c.next_at-at.ensures
+          (subst (λ m. LostOne c.args.direction m (columns c.loop-at.nodes) (starts c.loop-at.self) (columns c.lower.new.nodes) (starts c.lower.new.self) c.node_at.result.value) inv.2.arcs e.lost)
           inv.0,
       same_names c.lower.new.nodes c.loop-at.nodes c.args.nodes.now e.names inv.1,
       same_sizes c.lower.new.self c.loop-at.self c.args.self.now e.sizes inv.2,
@@ -31,7 +31,7 @@ loop-at-preserved c =
 
 pub returns : goal.returns
 returns c = record {
-  lost = walked_all c.args.direction c.args.self.now.arcs (neighbours_of c.args.neighbours.now) (columns c.args.nodes.now) (columns c.loop-at.nodes) (starts c.args.self.now) (starts c.loop-at.self) c.args.from c.loop-at.at c.in-default.is c.loop-at.invariant.0;
+  lost = walked_all c.args.direction c.args.self.now.arcs (neighbours_of c.args.neighbours.now) (columns c.args.nodes.now) (columns c.loop-at.nodes) (starts c.args.self.now) (starts c.loop-at.self) c.args.from c.loop-at.at c.in_default.is c.loop-at.invariant.0;
   names = c.loop-at.invariant.1;
   sizes = c.loop-at.invariant.2;
 }

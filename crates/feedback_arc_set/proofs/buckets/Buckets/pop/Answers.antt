@@ -7,8 +7,8 @@ use Rattle.feedback_arc_set.proofs.buckets.Buckets.pop.Goals as goal
 pub returns : goal.returns
 returns c = record {
   popped = λ D us f.
-      pop_filed (columns c.args.nodes.now).positions (columns c.remove.new.nodes).positions D (starts c.args.self.now) (starts c.remove.new.self) us c.args.class c.in-ok-start.field-0 c.new-popped.result.value
-      (sym c.in-ok-start.was ∙ c.start.ensures) c.new-popped.ensures c.remove.ensures.filed f;
+      pop_filed (columns c.args.nodes.now).positions (columns c.remove.new.nodes).positions D (starts c.args.self.now) (starts c.remove.new.self) us c.args.class c.in_ok-start.field-0 c.new-popped.result.value
+      (sym c.in_ok-start.was ∙ c.start.ensures) c.new-popped.ensures c.remove.ensures.filed f;
   kept = c.remove.ensures.kept;
   sizes = c.remove.ensures.sizes;
 }

@@ -8,9 +8,9 @@ use Rattle.feedback_arc_set.specs.Nodes.{neighbours_of, blank_node}
 use Rattle.feedback_arc_set.proofs.Reading.{get_d_field, unlisted_same, unlisted_names, same_names}
 use Rattle.feedback_arc_set.proofs.buckets.Buckets.take_first.Goals as goal
 
-pub returns-in-default : goal.returns-in-default
-returns-in-default c =
-    let p = c.in-default.ensures in
+pub returns-in_default : goal.returns-in_default
+returns-in_default c =
+    let p = c.in_default.ensures in
     let k = unlisted_same c.pop.new.nodes c.args.nodes.now p.kept in
     record {
       first = record {
@@ -28,23 +28,23 @@ returns-in-default c =
 pub returns : goal.returns
 returns c =
     let p = c.in-Some.ensures in
-    let u = c.update-neighbour-node-buckets.ensures in
+    let u = c.update_neighbour_node_buckets.ensures in
     let m = c.args.self.now.arcs in
     let x = c.in-Some.taken.value in
     let P = neighbours_of c.args.neighbours.now in
     let t0 = columns c.args.nodes.now in
     let t1 = columns c.pop.new.nodes in
-    let t2 = columns c.update-neighbour-node-buckets.new.nodes in
+    let t2 = columns c.update_neighbour_node_buckets.new.nodes in
     let s0 = starts c.args.self.now in
     let s1 = starts c.pop.new.self in
-    let s2 = starts c.update-neighbour-node-buckets.new.self in
+    let s2 = starts c.update_neighbour_node_buckets.new.self in
     let k = unlisted_same c.pop.new.nodes c.args.nodes.now p.kept in
-    let up = subst (λ a. Updated a (neighbours_of c.args.neighbours.now) (columns c.pop.new.nodes) (starts c.pop.new.self) (columns c.update-neighbour-node-buckets.new.nodes) (starts c.update-neighbour-node-buckets.new.self) (get_or (columns c.pop.new.nodes).first_outs c.in-Some.taken.value None) (get_or (columns c.pop.new.nodes).first_ins c.in-Some.taken.value None)) p.sizes.arcs u.updated in
+    let up = subst (λ a. Updated a (neighbours_of c.args.neighbours.now) (columns c.pop.new.nodes) (starts c.pop.new.self) (columns c.update_neighbour_node_buckets.new.nodes) (starts c.update_neighbour_node_buckets.new.self) (get_or (columns c.pop.new.nodes).first_outs c.in-Some.taken.value None) (get_or (columns c.pop.new.nodes).first_ins c.in-Some.taken.value None)) p.sizes.arcs u.updated in
     let d = ap (λ n. n.out_degree) c.node.ensures ∙ sym (get_d_field (λ n. n.out_degree) (nodes_of c.pop.new.nodes) c.in-Some.taken.value blank_node) in
     record {
       first = record {
         took = λ arcs us r s. took m arcs P t0 t1 t2 s0 s1 s2 us c.args.class x s p.popped k p.sizes.size up;
-        capped = λ arcs us r s. took_capped m arcs P t0 t1 s0 s1 us c.args.class x c.args.self.now.top c.update-neighbour-node-buckets.new.self.top c.node.result.out_degree s p.popped k.out_degrees d
+        capped = λ arcs us r s. took_capped m arcs P t0 t1 s0 s1 us c.args.class x c.args.self.now.top c.update_neighbour_node_buckets.new.self.top c.node.result.out_degree s p.popped k.out_degrees d
             (u.sizes.top ∙ c.lifted-self.ensures ∙ ap (λ a. lifted a c.pop.new.self.top c.node.result.out_degree) p.sizes.arcs ∙ ap (λ t. lifted c.args.self.now.arcs t c.node.result.out_degree) p.sizes.top);
         full = λ z. absurd (let n = c.if-room-eq0.false in omega arith);
         placed = u.updated.links.placed ∙ k.links.placed;
@@ -52,5 +52,5 @@ returns c =
         lender = u.sizes.lender ∙ p.sizes.lender;
       };
       room = let n = c.if-room-eq0.false in omega arith;
-      names = same_names c.update-neighbour-node-buckets.new.nodes c.pop.new.nodes c.args.nodes.now u.names (unlisted_names c.pop.new.nodes c.args.nodes.now p.kept);
+      names = same_names c.update_neighbour_node_buckets.new.nodes c.pop.new.nodes c.args.nodes.now u.names (unlisted_names c.pop.new.nodes c.args.nodes.now p.kept);
     }

@@ -16,7 +16,7 @@ returns-in-Some c =
 
 pub returns-then-next-most : goal.returns-then-next-most
 returns-then-next-most c =
-    let f = met_few c.args.self.now c.args.key.value (c.in-default.ensures (intact c.args.self.now)) in
+    let f = met_few c.args.self.now c.args.key.value (c.in_default.ensures (intact c.args.self.now)) in
     let n = c.len-next.ensures.count (intact c.args.self.now) in
     record { met = omega arith; slots = refl }
 
@@ -24,7 +24,7 @@ pub returns : goal.returns
 returns c =
     let a = c.args.self.now in
     let l = listing c.args.self.now.table in
-    let none = c.in-default.ensures (intact c.args.self.now) in
+    let none = c.in_default.ensures (intact c.args.self.now) in
     let n = c.len-next.ensures.count (intact c.args.self.now) in
     let p = c.requires in
     let fit : length (listing c.args.self.now.table) < room c.args.self.now.table = let q = c.if-next-most.false in omega arith in

@@ -7,7 +7,7 @@ use Rattle.feedback_arc_set.proofs.container.FasNodeContainer.key.Goals as goal
 
 pub returns : goal.returns
 returns c =
-    c.key-or-blank.ensures
+    c.key_or_blank.ensures
     ∙ ap key_or_blank (c.at.ensures (intact c.args.self.now))
     ∙ ap (λ i. key_or_blank (slice_get (listing c.args.self.now.table) i)) c.get.ensures
     ∙ key_read (listing c.args.self.now.table) c.args.ix.value

@@ -7,7 +7,7 @@ use Rattle.feedback_arc_set.proofs.container.FasNodeContainer.node.Goals as goal
 
 pub returns : goal.returns
 returns c =
-    c.value-or-blank.ensures
+    c.value_or_blank.ensures
     ∙ ap value_or_blank (c.at.ensures (intact c.args.self.now))
     ∙ ap (λ i. value_or_blank (slice_get (listing c.args.self.now.table) i)) c.get.ensures
     ∙ value_read (listing c.args.self.now.table) c.args.ix.value

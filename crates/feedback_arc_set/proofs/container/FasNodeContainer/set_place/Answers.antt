@@ -7,12 +7,12 @@ use Rattle.feedback_arc_set.proofs.container.FasNodeContainer.set_place.Goals as
 pub returns : goal.returns
 returns c =
     let ns = nodes_of c.args.self.now in
-    let ms = nodes_of c.set-node.new.self in
+    let ms = nodes_of c.set_node.new.self in
     let i = c.args.ix.value in
     let old = c.node.result in
     let new = placed_node c.args.place c.node.result in
     let e = c.node.ensures in
-    let w = c.set-node.ensures.written ∙ ap (set (nodes_of c.args.self.now) c.args.ix.value) c.placed-node.ensures in
+    let w = c.set_node.ensures.written ∙ ap (set (nodes_of c.args.self.now) c.args.ix.value) c.placed-node.ensures in
     record {
       written = record {
         positions = kept_by (λ n. n.position) ns ms i old new e w refl;
@@ -22,5 +22,5 @@ returns c =
         first_ins = kept_by (λ n. n.first_in) ns ms i old new e w refl;
         places = written_by (λ n. n.place) ns ms i new c.args.place w refl;
       };
-      names = c.set-node.ensures.names;
+      names = c.set_node.ensures.names;
     }

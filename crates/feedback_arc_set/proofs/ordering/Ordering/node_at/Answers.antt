@@ -8,7 +8,7 @@ use Rattle.feedback_arc_set.proofs.Standing.{order_long, index_taken}
 pub returns-then-place-self : goal.returns-then-place-self
 returns-then-place-self c =
     let o = c.args.self.now in
-    c.order-at.ensures ∙ index_taken (order_places o.tables) o.touched c.args.place c.if-place-self.true
+    c.order_at.ensures ∙ index_taken (order_places o.tables) o.touched c.args.place c.if-place-self.true
 
 pub returns-else-place-self : goal.returns-else-place-self
 returns-else-place-self c =

@@ -11,7 +11,7 @@ use Rattle.feedback_arc_set.proofs.tables.WorkTables.order_source.Goals as goal
 pub returns : goal.returns
 returns g c =
     let t = c.args.self.now in
-    let e = c.order-nodes-answer.ensures in
+    let e = c.order_nodes-answer.ensures in
     let old = c.replace-entries.ensures.value in
     let oldN = ap (λ x. x.now) c.replace-neighbours.ensures.value in
     let oldC = ap (λ x. x.now) c.replace-classes.ensures.value in
@@ -24,17 +24,17 @@ returns g c =
       granted = λ n z.
           let q = e.granted n z in
           let k = q.2 in
-          let r = ranked_placed (links g.Node.NodeKey.index (g.S.ArcSource.arcs c.args.source.now)) c.order-nodes-answer.new.nodes c.replace-order.result.now c.order-nodes-answer.new.order n q.0 q.2 in (
+          let r = ranked_placed (links g.Node.NodeKey.index (g.S.ArcSource.arcs c.args.source.now)) c.order_nodes-answer.new.nodes c.replace-order.result.now c.order_nodes-answer.new.order n q.0 q.2 in (
             (let b = q.1 in omega arith),
             record {
               count = q.0 ∙ ap length k.met;
               order = r.0;
-              rest = ap (λ v. drop v c.order-nodes-answer.new.order) q.0 ∙ k.rest ∙ ap (λ v. drop v c.replace-order.result.now) (sym q.0) ∙ ap (drop n) oldO;
+              rest = ap (λ v. drop v c.order_nodes-answer.new.order) q.0 ∙ k.rest ∙ ap (λ v. drop v c.replace-order.result.now) (sym q.0) ∙ ap (drop n) oldO;
               long = let o = ap length oldO in omega arith;
               placed = r.1;
             },
           );
-      intact = intact c.order-nodes-answer.new.nodes;
+      intact = intact c.order_nodes-answer.new.nodes;
       slots = e.slots ∙ slots;
       neighbours = e.clean.0 ∙ oldN;
       classes = e.clean.1 ∙ oldC;

@@ -7,23 +7,16 @@ use Rattle.graphmap.specs.States.{state}
 use Rattle.graphmap.proofs.Blanking.{emptied_good}
 use Rattle.graphmap.proofs.graphmap.GraphMap.clear.Goals as goal
 
-pub invariant-of-self : goal.invariant-of-self
-invariant-of-self g c =
+pub invariant_of-self : goal.invariant_of-self
+invariant_of-self g c =
     let m = c.args.self.now in
     let st = state m.tables in
     let call = c.clear.ensures in
     let places = m.tables.links.slots.now in
-    let e = ap (λ (z : State g.row.N.Denot g.row.E.Denot). z.arc_places) call.state in (
-      call.whole.nodes,
-      (
-        call.whole.arcs,
-        (
-          let f = m.few in omega arith,
-          (
-            ∥∥₁_map m.good (λ k. subst Good (sym call.state)
-                (emptied_good g.row.N.Denot g.row.E.Denot st.node_places st.arc_places (length places) (let r = k.rep.roomy in let l = length-map places (λ p. p.position) in omega arith))),
-            tt,
-          ),
-        ),
-      ),
-    )
+    let e = ap (λ (z : State g.row.N.Denot g.row.E.Denot). z.arc_places) call.state in record {
+      nodes = call.whole.nodes;
+      arcs = call.whole.arcs;
+      few = (let f = m.few in omega arith);
+      good = ∥∥₁_map m.good (λ k. subst Good (sym call.state)
+          (emptied_good g.row.N.Denot g.row.E.Denot st.node_places st.arc_places (length places) (let r = k.rep.roomy in let l = length-map places (λ p. p.position) in omega arith)));
+    }

@@ -4,16 +4,7 @@ use Rattle.map_layout.specs.Edits.{Good}
 use Rattle.graphmap.proofs.Blanking.{emptied_good}
 use Rattle.graphmap.proofs.graphmap.GraphMap.new.Goals as goal
 
-pub invariant-of-result : goal.invariant-of-result
-invariant-of-result g c =
+pub invariant_of-result : goal.invariant_of-result
+invariant_of-result g c =
     let call = c.new.ensures in
-    let e = ap (λ (z : State g.row.N.Denot g.row.E.Denot). z.arc_places) call.state in (
-      call.whole.nodes,
-      (
-        call.whole.arcs,
-        (
-          omega arith,
-          (∣ subst Good (sym call.state) (emptied_good g.row.N.Denot g.row.E.Denot 0 0 0 (omega arith)) ∣₁, tt),
-        ),
-      ),
-    )
+    let e = ap (λ (z : State g.row.N.Denot g.row.E.Denot). z.arc_places) call.state in record { nodes = call.whole.nodes; arcs = call.whole.arcs; few = omega arith; good = ∣ subst Good (sym call.state) (emptied_good g.row.N.Denot g.row.E.Denot 0 0 0 (omega arith)) ∣₁ }

@@ -6,26 +6,26 @@ use Rattle.graphmap.specs.States.{state}
 use Rattle.graphmap.proofs.Holding.{kept, shows}
 use Rattle.graphmap.proofs.graphmap.GraphMap.remove_edge.Goals as goal
 
-pub invariant-of-self : goal.invariant-of-self
-invariant-of-self g c =
+pub invariant_of-self : goal.invariant_of-self
+invariant_of-self g c =
     let m = c.args.self.now in
     let st = state m.tables in
-    let i = c.node-index.result in
-    let j = c.node-index-2.result in
-    let call = c.remove-edge.ensures in
-    kept st m.good c.remove-edge.new.self (edge_removed_at (model st) i.value j.value).1 (call.whole (record { nodes = m.nodes; arcs = m.arcs })) m.few refl
-    (edge_removed_to i j st (state c.remove-edge.new.self) c.remove-edge.result (call.done (record { nodes = m.nodes; arcs = m.arcs })))
+    let i = c.node_index.result in
+    let j = c.node_index-2.result in
+    let call = c.remove_edge.ensures in
+    kept st m.good c.remove_edge.new.self (edge_removed_at (model st) i.value j.value).1 (call.whole (record { nodes = m.nodes; arcs = m.arcs })) m.few refl
+    (edge_removed_to i j st (state c.remove_edge.new.self) c.remove_edge.result (call.done (record { nodes = m.nodes; arcs = m.arcs })))
 
 pub returns : goal.returns
 returns g c =
     let m = c.args.self.now in
     let st = state m.tables in
-    let st' = state c.remove-edge.new.self in
-    let i = c.node-index.result in
-    let j = c.node-index-2.result in
-    let call = c.remove-edge.ensures in
-    let r = c.remove-edge.result in
-    let e = ap (λ z. edge_removed_at (model st) z j.value) c.node-index.ensures ∙ ap (edge_removed_at (model st) (g.N.NodeKey.index c.args.a)) c.node-index-2.ensures in
+    let st' = state c.remove_edge.new.self in
+    let i = c.node_index.result in
+    let j = c.node_index-2.result in
+    let call = c.remove_edge.ensures in
+    let r = c.remove_edge.result in
+    let e = ap (λ z. edge_removed_at (model st) z j.value) c.node_index.ensures ∙ ap (edge_removed_at (model st) (g.N.NodeKey.index c.args.a)) c.node_index-2.ensures in
     record {
       answer = removal_answers i j st st' r (call.done (record { nodes = m.nodes; arcs = m.arcs })) ∙ ap (λ p. p.0) e;
       shown =

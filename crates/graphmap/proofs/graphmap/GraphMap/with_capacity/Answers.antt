@@ -9,8 +9,8 @@ use Rattle.graphmap.specs.States.{state, emptied}
 use Rattle.graphmap.proofs.Blanking.{emptied_good, fits, room_is}
 use Rattle.graphmap.proofs.graphmap.GraphMap.with_capacity.Goals as goal
 
-pub invariant-of-self : goal.invariant-of-self
-invariant-of-self g c =
+pub invariant_of-self : goal.invariant_of-self
+invariant_of-self g c =
     let p = c.args.places.now in
     let call = c.new-self.ensures in
     let f = fits (length p.nodes.now) (length p.arcs.now) (length p.links.now) (sym c.fit.ensures ∙ c.if-not-fit.false) in
@@ -18,16 +18,7 @@ invariant-of-self g c =
     let a = ap (λ r. length r.now) c.replace-arcs.ensures.value in
     let l = ap (λ r. length r.now) c.replace-links.ensures.value in
     let e = ap (λ (z : State g.row.N.Denot g.row.E.Denot). z.arc_places) call.state in
-    let ra = ap room_of a ∙ room_is (length p.arcs.now) f.arcs in (
-      call.whole.nodes,
-      (
-        call.whole.arcs,
-        (
-          let x = f.arcs in omega arith,
-          (∣ subst Good (sym call.state) (emptied_good g.row.N.Denot g.row.E.Denot _ _ _ (let y = f.links in omega arith)) ∣₁, tt),
-        ),
-      ),
-    )
+    let ra = ap room_of a ∙ room_is (length p.arcs.now) f.arcs in record { nodes = call.whole.nodes; arcs = call.whole.arcs; few = (let x = f.arcs in omega arith); good = ∣ subst Good (sym call.state) (emptied_good g.row.N.Denot g.row.E.Denot _ _ _ (let y = f.links in omega arith)) ∣₁ }
 
 pub returns : goal.returns
 returns g c =

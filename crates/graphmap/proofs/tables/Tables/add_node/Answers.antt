@@ -21,11 +21,11 @@ returns-in-Ok g c =
     record {
       whole = λ w. record { nodes = c.insert.ensures.intact w.nodes; arcs = w.arcs };
       answer = λ w. sym (answer_room st c.args.key c.args.index
-          (put_ok st.node_places c.args.index.value st.nodes (sym (c.in-default.ensures w.nodes)) c.in-Ok.field-0 (c.in-Ok.ensures.answer w.nodes)));
+          (put_ok st.node_places c.args.index.value st.nodes (sym (c.in_default.ensures w.nodes)) c.in-Ok.field-0 (c.in-Ok.ensures.answer w.nodes)));
       state = λ w.
           let l = c.insert.ensures.listing w.nodes in
           let r = ap room_of c.insert.ensures.size in
-          (λ x. with_places st (l x) st.neighbors st.positions (r x)) ∙ entered_new st c.args.key c.args.index (sym (c.in-default.ensures w.nodes));
+          (λ x. with_places st (l x) st.neighbors st.positions (r x)) ∙ entered_new st c.args.key c.args.index (sym (c.in_default.ensures w.nodes));
     }
 
 pub returns-in-Err : goal.returns-in-Err
@@ -33,10 +33,10 @@ returns-in-Err g c =
     let st = state c.args.self.now in
     record {
       whole = λ w. record { nodes = c.insert.ensures.intact w.nodes; arcs = w.arcs };
-      answer = λ w. sym (answer_full st c.args.key c.args.index (sym (c.in-default.ensures w.nodes))
-          (put_err st.node_places c.args.index.value st.nodes (sym (c.in-default.ensures w.nodes)) c.in-Err.field-0 (c.in-Err.ensures.answer w.nodes)));
+      answer = λ w. sym (answer_full st c.args.key c.args.index (sym (c.in_default.ensures w.nodes))
+          (put_err st.node_places c.args.index.value st.nodes (sym (c.in_default.ensures w.nodes)) c.in-Err.field-0 (c.in-Err.ensures.answer w.nodes)));
       state = λ w.
           let l = c.insert.ensures.listing w.nodes in
           let r = ap room_of c.insert.ensures.size in
-          (λ x. with_places st (l x) st.neighbors st.positions (r x)) ∙ entered_new st c.args.key c.args.index (sym (c.in-default.ensures w.nodes));
+          (λ x. with_places st (l x) st.neighbors st.positions (r x)) ∙ entered_new st c.args.key c.args.index (sym (c.in_default.ensures w.nodes));
     }

@@ -11,13 +11,13 @@ returns g c =
     let st = state c.args.self.now in
     let w = c.requires in
     let out = c.in-Some.ensures in
-    let link = c.unlink-oldest.ensures in
-    let give = c.give-place.ensures in
-    let e = cuts_arc st c.args.index c.args.other c.args.place _ c.ends-at-ends.ensures _ (state c.unlink-oldest.new.self) (state c.give-place.new.self) _ _
+    let link = c.unlink_oldest.ensures in
+    let give = c.give_place.ensures in
+    let e = cuts_arc st c.args.index c.args.other c.args.place _ c.ends_at-ends.ensures _ (state c.unlink_oldest.new.self) (state c.give_place.new.self) _ _
     (out.listing w.arcs) (ap room_of out.size) refl (link.state (record { nodes = w.nodes; arcs = out.intact w.arcs })) give.state in
     record {
       whole = give.whole (link.whole (record { nodes = w.nodes; arcs = out.intact w.arcs }));
       gone = λ _. e;
-      fewer = λ _. subst (λ z. length z.arcs < length st.arcs) (sym e) (cut_shorter st c.args.index c.args.other c.args.place _ c.ends-at-ends.ensures _ (out.answer w.arcs));
+      fewer = λ _. subst (λ z. length z.arcs < length st.arcs) (sym e) (cut_shorter st c.args.index c.args.other c.args.place _ c.ends_at-ends.ensures _ (out.answer w.arcs));
       absent = λ q. absurd (true≢false q);
     }

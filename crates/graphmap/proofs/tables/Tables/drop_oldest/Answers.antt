@@ -9,8 +9,8 @@ use Rattle.map_model.proofs.Searching.{none_counts}
 use Rattle.graphmap.specs.States.{state}
 use Rattle.graphmap.proofs.tables.Tables.drop_oldest.Goals as goal
 
-pub returns-in-default-neighbor-at : goal.returns-in-default-neighbor-at
-returns-in-default-neighbor-at g c =
+pub returns-in_default-neighbor_at : goal.returns-in_default-neighbor_at
+returns-in_default-neighbor_at g c =
     let st = state c.args.self.now in
     record {
       whole = c.requires;
@@ -19,7 +19,7 @@ returns-in-default-neighbor-at g c =
       ended = λ _ good.
           let o = sym (c.in-Some.ensures c.requires) in
           let f = filled st good.rep c.args.index.value c.in-Some.place (oldest_linked st c.args.index.value c.in-Some.place good.rep o) in
-          let e = c.in-default-neighbor-at.ensures in
+          let e = c.in_default-neighbor_at.ensures in
           let h = f.1 in
           absurd (let z : ◌≡◌ {A = ℕ} 0 1 = cc in omega arith);
     }
@@ -29,14 +29,14 @@ returns g c =
     let st = state c.args.self.now in
     let cut = c.cut.ensures in
     let o = sym (c.in-Some.ensures c.requires) in
-    let n = sym c.in-Some-neighbor-at.ensures in
+    let n = sym c.in-Some-neighbor_at.ensures in
     record {
       whole = cut.whole;
       fewer = cut.fewer;
-      gone = λ q good. subst (Cut c.args.index.value st) (sym (cut.gone q)) (cuts st good c.args.index c.in-Some.place c.in-Some-neighbor-at.neighbor o n);
+      gone = λ q good. subst (Cut c.args.index.value st) (sym (cut.gone q)) (cuts st good c.args.index c.in-Some.place c.in-Some-neighbor_at.neighbor o n);
       ended = λ q good.
-          let a = arc_counts st good c.args.index c.in-Some.place c.in-Some-neighbor-at.neighbor o n in
-          let k = number_at c.in-Some.place c.args.index c.in-Some-neighbor-at.neighbor.index in
+          let a = arc_counts st good c.args.index c.in-Some.place c.in-Some-neighbor_at.neighbor o n in
+          let k = number_at c.in-Some.place c.args.index c.in-Some-neighbor_at.neighbor.index in
           let z = none_counts (numbered k) st.arcs (value_none k st.arcs (cut.absent q)) in
           absurd (omega arith);
     }

@@ -16,4 +16,4 @@ returns g c = λ w.
     let t = c.args.self.now.nodes in
     let n = count t.slots.now t.len w.nodes in
     let b = w.nodes.0 in
-    less_free c.free.result c.new-keys.result (room t) (length (listing t)) (omega arith) (c.free.ensures w.nodes) ∙ ap (λ k. ltb (room t) (length (listing t) + k)) (c.new-keys.ensures w)
+    less_free c.free.result c.new_keys.result (room t) (length (listing t)) (omega arith) (c.free.ensures w.nodes) ∙ ap (λ k. ltb (room t) (length (listing t) + k)) (c.new_keys.ensures w)

@@ -8,14 +8,14 @@ use Rattle.graphmap.proofs.tables.Tables.link.Goals as goal
 pub returns : goal.returns
 returns g c =
     let st = state c.args.self.now in
-    let push = c.push-front-pushed.ensures in
-    let put = c.set-neighbor.ensures in
-    let l1 = c.set-neighbor.new.links.slots.now in
-    let l2 = c.push-front-pushed.new.entries.slots.now in
+    let push = c.push_front-pushed.ensures in
+    let put = c.set_neighbor.ensures in
+    let l1 = c.set_neighbor.new.links.slots.now in
+    let l2 = c.push_front-pushed.new.entries.slots.now in
     record {
       whole = λ w. record { nodes = c.insert.ensures.intact w.nodes; arcs = w.arcs };
       state = λ w.
-          links_to_node st c.args.index c.args.place (unwrap_or (node_at c.args.index.value st) (lone c.args.key)) c.node-or-new-node.result c.args.neighbor _ _ _ _ _ _ _ _
-          (c.node-or-new-node.ensures w) (neighbors_kept l1 l2 push.kept ∙ put.neighbors) put.positions push.answer push.placed push.started c.or-place.ensures
+          links_to_node st c.args.index c.args.place (unwrap_or (node_at c.args.index.value st) (lone c.args.key)) c.node_or_new-node.result c.args.neighbor _ _ _ _ _ _ _ _
+          (c.node_or_new-node.ensures w) (neighbors_kept l1 l2 push.kept ∙ put.neighbors) put.positions push.answer push.placed push.started c.or_place.ensures
           (c.insert.ensures.listing w.nodes) (ap room_of c.insert.ensures.size);
     }

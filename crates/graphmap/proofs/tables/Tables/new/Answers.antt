@@ -6,7 +6,7 @@ pub returns : goal.returns
 returns g c =
     let n = c.new.ensures in
     let a = c.new-2.ensures in
-    let l = c.blank-all.ensures in
+    let l = c.blank_all.ensures in
     let u = c.new-3.ensures.answer in
     record {
       whole = record { nodes = n.intact; arcs = a.intact };

@@ -4,19 +4,19 @@ use Rattle.graphmap.specs.Links.{ToCome}
 use Rattle.graphmap.specs.States.{state}
 use Rattle.graphmap.proofs.Walking.{to_end, to_limit, passed, none_there, not_shown, found_at}
 use Rattle.graphmap.proofs.tables.Tables.next_link.Goals as goal
-use Rattle.graphmap.proofs.tables.Tables.next_link.Goals.{in-Some-neighbor-at+else-shows, in-default-neighbor-at}
+use Rattle.graphmap.proofs.tables.Tables.next_link.Goals.{in-Some-neighbor_at+else-shows, in_default-neighbor_at}
 
-pub returns-in-default : goal.returns-in-default
-returns-in-default g c ks t =
+pub returns-in_default : goal.returns-in_default
+returns-in_default g c ks t =
     let st = state c.args.self.now in
     to_end st c.args.index.value c.args.direction c.loop-k.k ks
-    (subst (λ s. ToCome st c.args.index.value c.args.direction s c.loop-k.k ks) c.in-default.is (c.loop-k.invariant ks t))
+    (subst (λ s. ToCome st c.args.index.value c.args.direction s c.loop-k.k ks) c.in_default.is (c.loop-k.invariant ks t))
 
 pub returns-then-shows : goal.returns-then-shows
 returns-then-shows g c ks t =
     let st = state c.args.self.now in
-    found_at st c.args.index.value c.args.direction c.in-Some.place c.loop-k.k c.in-Some-neighbor-at.neighbor _ ks refl c.direction-at-direction.ensures c.prev-next.ensures.answer
-    (sym c.in-Some-neighbor-at.ensures) (sym c.if-shows.ensures)
+    found_at st c.args.index.value c.args.direction c.in-Some.place c.loop-k.k c.in-Some-neighbor_at.neighbor _ ks refl c.direction_at-direction.ensures c.prev-next.ensures.answer
+    (sym c.in-Some-neighbor_at.ensures) (sym c.if-shows.ensures)
     (subst (λ s. ToCome st c.args.index.value c.args.direction s c.loop-k.k ks) c.in-Some.is (c.loop-k.invariant ks t))
 
 pub loop-k-preserved : goal.loop-k-preserved
@@ -26,11 +26,11 @@ loop-k-preserved g c ks t =
     let d = c.args.direction in
     let p = c.in-Some.place in
     let h = subst (λ s. ToCome st i d s c.loop-k.k ks) c.in-Some.is (c.loop-k.invariant ks t) in
-    elim c.match-neighbor-at.branch [
-      | in-Some-neighbor-at+else-shows w ↦
-          passed st i d p c.loop-k.k c.prev-next.result ks c.prev-next.ensures.answer (not_shown st i d p w.in-Some-neighbor-at.neighbor (sym w.in-Some-neighbor-at.ensures) (sym w.if-shows.ensures)) h
-      | in-default-neighbor-at w ↦
-          passed st i d p c.loop-k.k c.prev-next.result ks c.prev-next.ensures.answer (none_there st i d p (sym w.in-default-neighbor-at.ensures)) h
+    elim c.match-neighbor_at.branch [
+      | in-Some-neighbor_at+else-shows w ↦
+          passed st i d p c.loop-k.k c.prev-next.result ks c.prev-next.ensures.answer (not_shown st i d p w.in-Some-neighbor_at.neighbor (sym w.in-Some-neighbor_at.ensures) (sym w.if-shows.ensures)) h
+      | in_default-neighbor_at w ↦
+          passed st i d p c.loop-k.k c.prev-next.result ks c.prev-next.ensures.answer (none_there st i d p (sym w.in_default-neighbor_at.ensures)) h
     ]
 
 pub returns : goal.returns

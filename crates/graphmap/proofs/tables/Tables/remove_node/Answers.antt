@@ -17,8 +17,8 @@ pub loop-preserved : goal.loop-preserved
 loop-preserved g c =
     let i = c.args.index.value in
     let st1 = state c.loop.self in (
-      c.drop-oldest.ensures.whole,
-      λ good. let k = c.loop.invariant.1 good in cut_more i (state c.args.self.now) st1 (state c.drop-oldest.new.self) k (c.drop-oldest.ensures.gone c.loop-test.true k.good),
+      c.drop_oldest.ensures.whole,
+      λ good. let k = c.loop.invariant.1 good in cut_more i (state c.args.self.now) st1 (state c.drop_oldest.new.self) k (c.drop_oldest.ensures.gone c.loop-test.true k.good),
     )
 
 pub returns-then-not-contains : goal.returns-then-not-contains
@@ -38,19 +38,19 @@ returns g c =
     let st = state c.args.self.now in
     let i = c.args.index in
     let st1 = state c.loop.self in
-    let st2 = state c.drop-oldest.new.self in
-    let w = c.drop-oldest.ensures.whole in
-    let out = c.swap-remove.ensures in
+    let st2 = state c.drop_oldest.new.self in
+    let w = c.drop_oldest.ensures.whole in
+    let out = c.swap_remove.ensures in
     let h = sym (has_key st i) ∙ sym (c.contains.ensures c.requires.nodes) ∙ c.if-not-contains.false in
     let l = out.listing w.nodes in
     let r = ap room_of out.size in
     let gone : (k : Good st1) → with_places st2 _ st2.neighbors st2.positions _ ≡ node_gone i st1 =
-    λ k. (λ x. with_places st2 (l x) st2.neighbors st2.positions (r x)) ∙ ap (node_gone i) (c.drop-oldest.ensures.ended c.loop-test.false k).0 in
+    λ k. (λ x. with_places st2 (l x) st2.neighbors st2.positions (r x)) ∙ ap (node_gone i) (c.drop_oldest.ensures.ended c.loop-test.false k).0 in
     record {
       whole = record { nodes = out.intact w.nodes; arcs = w.arcs };
       answer = sym (removed_there (model st) i.value h);
       rep = λ good. let k = c.loop.invariant.1 good in
-          subst Rep (sym (gone k.good)) (gone_rep st1 k.good i (c.drop-oldest.ensures.ended c.loop-test.false k.good).1);
+          subst Rep (sym (gone k.good)) (gone_rep st1 k.good i (c.drop_oldest.ensures.ended c.loop-test.false k.good).1);
       shown = λ good. let k = c.loop.invariant.1 good in
-          ap model (gone k.good) ∙ all_cut st st1 i h k (c.drop-oldest.ensures.ended c.loop-test.false k.good).1;
+          ap model (gone k.good) ∙ all_cut st st1 i h k (c.drop_oldest.ensures.ended c.loop-test.false k.good).1;
     }

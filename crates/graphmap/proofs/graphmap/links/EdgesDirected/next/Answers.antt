@@ -8,7 +8,7 @@ returns-in-Some g c =
     let s = c.args.self.now in
     let m = s.map.now in
     record {
-      shows = λ ks t. found_edge (state m.tables) s.key s.node.value s.direction ks c.in-Some.found c.edge-with.result (c.edge-with.ensures (record { nodes = m.nodes; arcs = m.arcs })) (c.in-Some.ensures ks t);
+      shows = λ ks t. found_edge (state m.tables) s.key s.node.value s.direction ks c.in-Some.found c.edge_with.result (c.edge_with.ensures (record { nodes = m.nodes; arcs = m.arcs })) (c.in-Some.ensures ks t);
       same = (refl, refl, refl, refl);
     }
 

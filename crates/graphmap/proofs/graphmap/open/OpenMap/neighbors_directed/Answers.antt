@@ -7,6 +7,6 @@ pub returns : goal.returns
 returns g c =
     let m = c.args.self.now.map.now in
     record {
-      same = (refl, c.node-index-node.ensures, refl);
-      begins = begins (state m.tables) c.args.direction c.node-index-node.result.value (g.N.NodeKey.index c.args.a) c.oldest-place.result c.node-index-node.ensures (c.oldest-place.ensures (record { nodes = m.nodes; arcs = m.arcs })) m.good;
+      same = (refl, c.node_index-node.ensures, refl);
+      begins = begins (state m.tables) c.args.direction c.node_index-node.result.value (g.N.NodeKey.index c.args.a) c.oldest-place.result c.node_index-node.ensures (c.oldest-place.ensures (record { nodes = m.nodes; arcs = m.arcs })) m.good;
     }
