@@ -55,8 +55,8 @@ pub(crate) fn enter_all<S: ArcSource>(
     requires most { most ≤ room_of (slots_of nodes.old) }
     requires room { 2 * arcs ≤ length neighbours.old }
     requires fresh { (met_of nodes.old ≡ []) × ((AllBlank nodes.old) × (OwnNames nodes.old)) }
-    ensures entered { result ≡ true → EnteredAll (links Node-as-NodeKey.index (S.ArcSource.arcs source.now)) nodes.new neighbours.new most }
-    ensures refused { result ≡ false → most < length (touched (links Node-as-NodeKey.index (S.ArcSource.arcs source.now))) }
+    ensures entered { result ≡ true → EnteredAll (links S.Node.index (S.ArcSource.arcs source.now)) nodes.new neighbours.new most }
+    ensures refused { result ≡ false → most < length (touched (links S.Node.index (S.ArcSource.arcs source.now))) }
     ensures slots { slots_of nodes.new ≡ slots_of nodes.old }
     ensures blank { BlankFrom neighbours.old (2 * arcs) → BlankFrom neighbours.new (2 * arcs) }
 {

@@ -42,7 +42,7 @@ impl<'w> Ordering<'w> {
     /// A cursor of the held arcs of a source, before its first arc. `EndUnplaced` names the first arc with an end that
     /// has no place.
     pub fn held<S: ArcSource>(&self, source: &S) -> Result<HeldArcs<'_, 'w>, Fault>
-        ensures { result ≡ opened self.entry (first_unplaced Node-as-NodeKey.index (order_of self.now) (S.ArcSource.arcs source.now)) }
+        ensures { result ≡ opened self.entry (first_unplaced S.Node.index (order_of self.now) (S.ArcSource.arcs source.now)) }
     {
         for position in 0..source.arc_count() {
             if let Some(arc) = source.arc_at(position) {

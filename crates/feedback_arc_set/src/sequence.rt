@@ -72,8 +72,8 @@ pub(crate) fn order_nodes<S: ArcSource>(
     requires most { (most ≤ room_of (slots_of nodes.old)) × (most ≤ length order.old) }
     requires fresh { listing nodes.old.table ≡ [] }
     requires clean { (neighbours.old ≡ replicate (length neighbours.old) blank_neighbour) × (classes.old ≡ replicate (length classes.old) blank_class) }
-    ensures refused { result ≡ None → (most < length (touched (links Node-as-NodeKey.index (S.ArcSource.arcs source.now)))) × (listing nodes.new.table ≡ []) × (places nodes.new.table ≡ replicate (slots_of nodes.old) blank_slot) × (order.new ≡ order.old) }
-    ensures granted { (n : ℕ) → result ≡ Some n → (n ≡ length (met_of nodes.new)) × (n ≤ most) × Ranked (links Node-as-NodeKey.index (S.ArcSource.arcs source.now)) nodes.new order.old order.new }
+    ensures refused { result ≡ None → (most < length (touched (links S.Node.index (S.ArcSource.arcs source.now)))) × (listing nodes.new.table ≡ []) × (places nodes.new.table ≡ replicate (slots_of nodes.old) blank_slot) × (order.new ≡ order.old) }
+    ensures granted { (n : ℕ) → result ≡ Some n → (n ≡ length (met_of nodes.new)) × (n ≤ most) × Ranked (links S.Node.index (S.ArcSource.arcs source.now)) nodes.new order.old order.new }
     ensures slots { slots_of nodes.new ≡ slots_of nodes.old }
     ensures clean { (neighbours.new ≡ neighbours.old) × (classes.new ≡ classes.old) }
 {

@@ -34,8 +34,8 @@ impl<'w> WorkTables<'w> {
         requires arcs { (arcs ≡ length (S.ArcSource.arcs source.now)) × (arcs ≤ 16384) }
         requires room { (2 * arcs ≤ length (neighbour_places self.old)) × (2 * arcs < length (class_places self.old)) }
         requires clean { Clean self.old }
-        ensures refused { result ≡ None → (node_places self.old < length (touched (links Node-as-NodeKey.index (S.ArcSource.arcs source.now)))) × Emptied self.old self.new }
-        ensures granted { (n : ℕ) → result ≡ Some n → (n ≤ node_places self.old) × Granted (links Node-as-NodeKey.index (S.ArcSource.arcs source.now)) self.old self.new n }
+        ensures refused { result ≡ None → (node_places self.old < length (touched (links S.Node.index (S.ArcSource.arcs source.now)))) × Emptied self.old self.new }
+        ensures granted { (n : ℕ) → result ≡ Some n → (n ≤ node_places self.old) × Granted (links S.Node.index (S.ArcSource.arcs source.now)) self.old self.new n }
         ensures intact { Intact self.new.entries }
         ensures slots { length (entry_places self.new) ≡ length (entry_places self.old) }
         ensures neighbours { neighbour_places self.new ≡ neighbour_places self.old }

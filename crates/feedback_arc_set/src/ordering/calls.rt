@@ -57,8 +57,8 @@ impl<'w> Ordering<'w> {
     /// class place with `WorkTablesShort`; then the order that was held stays. Nodes that outnumber the order places or
     /// the first 4,096 entry places are refused with `WorkTablesShort` too; then no node has a place.
     pub fn greedy_feedback_arc_set<S: ArcSource>(&mut self, source: &S) -> Result<u32, Fault>
-        ensures answer { result ≡ answer (verdict (links Node-as-NodeKey.index (S.ArcSource.arcs source.now)) self.old.tables) (links Node-as-NodeKey.index (S.ArcSource.arcs source.now)) }
-        ensures leaves { Leaves (verdict (links Node-as-NodeKey.index (S.ArcSource.arcs source.now)) self.old.tables) (links Node-as-NodeKey.index (S.ArcSource.arcs source.now)) self.old self.new }
+        ensures answer { result ≡ answer (verdict (links S.Node.index (S.ArcSource.arcs source.now)) self.old.tables) (links S.Node.index (S.ArcSource.arcs source.now)) }
+        ensures leaves { Leaves (verdict (links S.Node.index (S.ArcSource.arcs source.now)) self.old.tables) (links S.Node.index (S.ArcSource.arcs source.now)) self.old self.new }
     {
         let arcs = source.arc_count();
         if arcs > 16384 {

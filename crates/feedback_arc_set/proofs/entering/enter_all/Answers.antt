@@ -10,9 +10,9 @@ use Rattle.feedback_arc_set.proofs.entering.enter_all.Goals as goal
 
 pub loop-i-init : goal.loop-i-init
 loop-i-init g c =
-    let net = links g.Node.NodeKey.index (g.S.ArcSource.arcs c.args.source.now) in
+    let net = links g.S.Node.NodeKey.index (g.S.ArcSource.arcs c.args.source.now) in
     let f = c.requires.fresh in (
-      subst (λ v. Entered (links g.Node.NodeKey.index (g.S.ArcSource.arcs c.args.source.now)) 0 v (neighbours_of c.args.neighbours.now).nodes) (sym f.0) (entered_none net (neighbours_of c.args.neighbours.now).nodes),
+      subst (λ v. Entered (links g.S.Node.NodeKey.index (g.S.ArcSource.arcs c.args.source.now)) 0 v (neighbours_of c.args.neighbours.now).nodes) (sym f.0) (entered_none net (neighbours_of c.args.neighbours.now).nodes),
       (let n = ap length f.0 in omega arith),
       f.1.0,
       f.1.1,
@@ -25,7 +25,7 @@ returns-in_default g c = absurd (let l = arc_there (g.S.ArcSource.arcs c.args.so
 
 pub returns-then-not-enter_arc : goal.returns-then-not-enter_arc
 returns-then-not-enter_arc g c =
-    let index = g.Node.NodeKey.index in
+    let index = g.S.Node.NodeKey.index in
     let arcs = g.S.ArcSource.arcs c.args.source.now in
     let inv = c.loop-i.invariant in
     let p = c.if-not-enter_arc.ensures in
@@ -41,7 +41,7 @@ returns-then-not-enter_arc g c =
 
 pub loop-i-preserved : goal.loop-i-preserved
 loop-i-preserved g c =
-    let index = g.Node.NodeKey.index in
+    let index = g.S.Node.NodeKey.index in
     let arcs = g.S.ArcSource.arcs c.args.source.now in
     let inv = c.loop-i.invariant in
     let p = c.if-not-enter_arc.ensures in
@@ -58,7 +58,7 @@ loop-i-preserved g c =
 
 pub returns : goal.returns
 returns g c =
-    let index = g.Node.NodeKey.index in
+    let index = g.S.Node.NodeKey.index in
     let arcs = g.S.ArcSource.arcs c.args.source.now in
     let inv = c.loop-i.invariant in
     let n = links_long index arcs in
@@ -66,7 +66,7 @@ returns g c =
     let e = c.loop-i-test.false in
     record {
       entered = λ z. record {
-        entered = subst (λ v. Entered (links g.Node.NodeKey.index (g.S.ArcSource.arcs c.args.source.now)) v (met_of c.loop-i.nodes) (neighbours_of c.loop-i.neighbours).nodes) (omega arith) inv.0;
+        entered = subst (λ v. Entered (links g.S.Node.NodeKey.index (g.S.ArcSource.arcs c.args.source.now)) v (met_of c.loop-i.nodes) (neighbours_of c.loop-i.neighbours).nodes) (omega arith) inv.0;
         few = inv.1;
         blank = inv.2;
         own = inv.3;

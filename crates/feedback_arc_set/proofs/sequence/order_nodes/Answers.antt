@@ -24,7 +24,7 @@ pub good_node_sequence-requires : goal.good_node_sequence-requires
 good_node_sequence-requires g c =
     let e = c.if-not-enter_all.ensures.entered refl in
     let m = c.requires.arcs.0 in
-    let long = links_long g.Node.NodeKey.index (g.S.ArcSource.arcs c.args.source.now) in
+    let long = links_long g.S.Node.NodeKey.index (g.S.ArcSource.arcs c.args.source.now) in
     let w = c.requires.room in
     let w0 = w.0 in let w1 = w.1 in
     let n = met_long c.enter_all.new.nodes in
@@ -34,20 +34,20 @@ good_node_sequence-requires g c =
       wide = w1;
       count = c.len-count.ensures;
       places = let f = e.few in let p = c.requires.most.1 in let l = c.len-count.ensures in omega arith;
-      ends = entered_ends (links g.Node.NodeKey.index (g.S.ArcSource.arcs c.args.source.now)) c.args.arcs (met_of c.enter_all.new.nodes) (neighbours_of c.enter_all.new.neighbours).nodes (length (nodes_of c.enter_all.new.nodes)) n
-          (subst (λ v. Entered (links g.Node.NodeKey.index (g.S.ArcSource.arcs c.args.source.now)) v (met_of c.enter_all.new.nodes) (neighbours_of c.enter_all.new.neighbours).nodes) (long ∙ sym m) e.entered);
+      ends = entered_ends (links g.S.Node.NodeKey.index (g.S.ArcSource.arcs c.args.source.now)) c.args.arcs (met_of c.enter_all.new.nodes) (neighbours_of c.enter_all.new.neighbours).nodes (length (nodes_of c.enter_all.new.nodes)) n
+          (subst (λ v. Entered (links g.S.Node.NodeKey.index (g.S.ArcSource.arcs c.args.source.now)) v (met_of c.enter_all.new.nodes) (neighbours_of c.enter_all.new.neighbours).nodes) (long ∙ sym m) e.entered);
       blank = e.blank;
       empty = c.requires.clean.1;
     }
 
 pub returns : goal.returns
 returns g c =
-    let net = links g.Node.NodeKey.index (g.S.ArcSource.arcs c.args.source.now) in
+    let net = links g.S.Node.NodeKey.index (g.S.ArcSource.arcs c.args.source.now) in
     let q = c.if-not-enter_all.ensures in
     let e = q.entered refl in
     let s = c.good_node_sequence.ensures in
     let m = c.requires.arcs.0 in
-    let long = links_long g.Node.NodeKey.index (g.S.ArcSource.arcs c.args.source.now) in
+    let long = links_long g.S.Node.NodeKey.index (g.S.ArcSource.arcs c.args.source.now) in
     let k = c.requires.clean in
     let n = met_long c.enter_all.new.nodes in
     let l = c.len-count.ensures in
@@ -59,7 +59,7 @@ returns g c =
           let is : c.len-count.result ≡ v = cc in (
             omega arith,
             omega arith,
-            s.ranked net (long ∙ sym m) (subst (λ v. Entered (links g.Node.NodeKey.index (g.S.ArcSource.arcs c.args.source.now)) v (met_of c.enter_all.new.nodes) (neighbours_of c.enter_all.new.neighbours).nodes) (long ∙ sym m) e.entered) e.own,
+            s.ranked net (long ∙ sym m) (subst (λ v. Entered (links g.S.Node.NodeKey.index (g.S.ArcSource.arcs c.args.source.now)) v (met_of c.enter_all.new.nodes) (neighbours_of c.enter_all.new.neighbours).nodes) (long ∙ sym m) e.entered) e.own,
           );
       slots = s.names.slots ∙ q.slots;
       clean = (s.neighbours (q.blank (blank_from c.args.neighbours.now (length c.args.neighbours.now) (2 * c.args.arcs) k.0)) ∙ ap (λ v. replicate v blank_neighbour) (omega arith) ∙ sym k.0, s.classes ∙ sym k.1);

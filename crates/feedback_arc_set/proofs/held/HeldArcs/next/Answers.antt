@@ -11,7 +11,7 @@ loop-position-init g c = (refl, refl, omega arith, omega arith, refl)
 
 pub returns-then-holds : goal.returns-then-holds
 returns-then-holds g c =
-    let index = g.Node.NodeKey.index in
+    let index = g.S.Node.NodeKey.index in
     let order = order_of c.args.self.now.ordering.now in
     let arcs = g.S.ArcSource.arcs c.args.source.now in
     let ends : Link = (c.node_index.result.value, c.node_index-in-Some.result.value) in
@@ -26,7 +26,7 @@ returns-then-holds g c =
 
 pub loop-position-preserved : goal.loop-position-preserved
 loop-position-preserved g c =
-    let index = g.Node.NodeKey.index in
+    let index = g.S.Node.NodeKey.index in
     let order = order_of c.args.self.now.ordering.now in
     let arcs = g.S.ArcSource.arcs c.args.source.now in
     let count = c.arc_count-position-end.ensures in
@@ -48,7 +48,7 @@ loop-position-preserved g c =
 
 pub returns : goal.returns
 returns g c =
-    let index = g.Node.NodeKey.index in
+    let index = g.S.Node.NodeKey.index in
     let order = order_of c.args.self.now.ordering.now in
     let arcs = g.S.ArcSource.arcs c.args.source.now in
     let count = c.arc_count-position-end.ensures in

@@ -9,5 +9,5 @@ invariant-loop-position g l =
     × (l.self.position ≡ l.position)
     × (l.initial.self.position ≤ l.position)
     × (l.position ≤ max l.initial.self.position (length (g.S.ArcSource.arcs l.source)))
-    × (first_held g.Node.NodeKey.index (order_of l.initial.self.ordering.now) l.initial.self.position (g.S.ArcSource.arcs l.source)
-    ≡ first_held g.Node.NodeKey.index (order_of l.initial.self.ordering.now) l.position (g.S.ArcSource.arcs l.source))
+    × (first_held g.S.Node.NodeKey.index (order_of l.initial.self.ordering.now) l.initial.self.position (g.S.ArcSource.arcs l.source)
+    ≡ first_held g.S.Node.NodeKey.index (order_of l.initial.self.ordering.now) l.position (g.S.ArcSource.arcs l.source))

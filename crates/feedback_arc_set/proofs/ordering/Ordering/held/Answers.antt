@@ -10,14 +10,14 @@ loop-position-init g c = refl
 
 pub returns-then-not-places_both : goal.returns-then-not-places_both
 returns-then-not-places_both g c =
-    let index = g.Node.NodeKey.index in
+    let index = g.S.Node.NodeKey.index in
     let order = order_of c.args.self.now in
     let found = told_unplaced index order c.in-Some.arc _ _ _ _ c.node_index.ensures c.node_index-in-Some.ensures c.places_both.ensures c.if-not-places_both.true in
     ap (opened c.args.self) (sym (c.loop-position.invariant ∙ first_here (unplaced index order) (g.S.ArcSource.arcs c.args.source.now) c.loop-position.position c.in-Some.arc (sym c.in-Some.is ∙ c.arc_at.ensures) found))
 
 pub loop-position-preserved : goal.loop-position-preserved
 loop-position-preserved g c =
-    let index = g.Node.NodeKey.index in
+    let index = g.S.Node.NodeKey.index in
     let order = order_of c.args.self.now in
     let arcs = g.S.ArcSource.arcs c.args.source.now in
     elim c.match-arc_at.branch [
@@ -29,7 +29,7 @@ loop-position-preserved g c =
 
 pub returns : goal.returns
 returns g c =
-    let index = g.Node.NodeKey.index in
+    let index = g.S.Node.NodeKey.index in
     let order = order_of c.args.self.now in
     let arcs = g.S.ArcSource.arcs c.args.source.now in
     let l = c.arc_count-position-end.ensures in

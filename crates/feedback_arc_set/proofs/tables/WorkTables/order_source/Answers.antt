@@ -24,7 +24,7 @@ returns g c =
       granted = λ n z.
           let q = e.granted n z in
           let k = q.2 in
-          let r = ranked_placed (links g.Node.NodeKey.index (g.S.ArcSource.arcs c.args.source.now)) c.order_nodes-answer.new.nodes c.replace-order.result.now c.order_nodes-answer.new.order n q.0 q.2 in (
+          let r = ranked_placed (links g.S.Node.NodeKey.index (g.S.ArcSource.arcs c.args.source.now)) c.order_nodes-answer.new.nodes c.replace-order.result.now c.order_nodes-answer.new.order n q.0 q.2 in (
             (let b = q.1 in omega arith),
             record {
               count = q.0 ∙ ap length k.met;

@@ -19,8 +19,9 @@ invariant_of-self g c =
     let a = c.args.a in
     let b = c.args.b in
     let v = c.args.weight in
-    kept st m.good c.add_edge.new.self (edge_added_at (model st) a i.value b j.value v).1 (call.whole (record { nodes = m.nodes; arcs = m.arcs })) m.few (places_edge_added (model st) a b i.value j.value v)
-    (λ k. edge_added_to a b i j v st (state c.add_edge.new.self) c.add_edge.result k (call.done (record { nodes = m.nodes; arcs = m.arcs })))
+    let w = kept st m.good c.add_edge.new.self (edge_added_at (model st) a i.value b j.value v).1 (call.whole (record { nodes = m.nodes; arcs = m.arcs })) m.few (places_edge_added (model st) a b i.value j.value v)
+    (λ k. edge_added_to a b i j v st (state c.add_edge.new.self) c.add_edge.result k (call.done (record { nodes = m.nodes; arcs = m.arcs }))) in
+    record { nodes = w.0; arcs = w.1.0; few = w.1.1.0; good = w.1.1.1.0 }
 
 pub returns : goal.returns
 returns g c =

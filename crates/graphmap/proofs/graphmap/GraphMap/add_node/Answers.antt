@@ -13,8 +13,9 @@ invariant_of-self g c =
     let i = c.node_index.result in
     let call = c.add_node.ensures in
     let after = (node_added_at (model st) c.args.n i.value).1 in
-    kept st m.good c.add_node.new.self after (call.whole (record { nodes = m.nodes; arcs = m.arcs })) m.few (places_node_added (model st) c.args.n i.value)
-    (λ k. subst (λ z. Edited z after) (sym (call.state (record { nodes = m.nodes; arcs = m.arcs }))) (node_added_to st c.args.n i k))
+    let w = kept st m.good c.add_node.new.self after (call.whole (record { nodes = m.nodes; arcs = m.arcs })) m.few (places_node_added (model st) c.args.n i.value)
+    (λ k. subst (λ z. Edited z after) (sym (call.state (record { nodes = m.nodes; arcs = m.arcs }))) (node_added_to st c.args.n i k)) in
+    record { nodes = w.0; arcs = w.1.0; few = w.1.1.0; good = w.1.1.1.0 }
 
 pub returns : goal.returns
 returns g c =

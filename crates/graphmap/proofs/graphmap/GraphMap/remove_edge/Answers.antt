@@ -13,8 +13,9 @@ invariant_of-self g c =
     let i = c.node_index.result in
     let j = c.node_index-2.result in
     let call = c.remove_edge.ensures in
-    kept st m.good c.remove_edge.new.self (edge_removed_at (model st) i.value j.value).1 (call.whole (record { nodes = m.nodes; arcs = m.arcs })) m.few refl
-    (edge_removed_to i j st (state c.remove_edge.new.self) c.remove_edge.result (call.done (record { nodes = m.nodes; arcs = m.arcs })))
+    let w = kept st m.good c.remove_edge.new.self (edge_removed_at (model st) i.value j.value).1 (call.whole (record { nodes = m.nodes; arcs = m.arcs })) m.few refl
+    (edge_removed_to i j st (state c.remove_edge.new.self) c.remove_edge.result (call.done (record { nodes = m.nodes; arcs = m.arcs }))) in
+    record { nodes = w.0; arcs = w.1.0; few = w.1.1.0; good = w.1.1.1.0 }
 
 pub returns : goal.returns
 returns g c =
