@@ -6,8 +6,8 @@ pub returns : goal.returns
 returns g c =
     let ix = g.N.NodeKey.index in
     let m = map_model c.args.map.now.map.now in
-    let arcs = c.arc-count-arcs.ensures in
+    let arcs = c.arc_count-arcs.ensures in
     record {
-      value = are_bounds ix m c.args.touched c.arc-count-arcs.result c.loop-count-loops.result c.opposite-count.result c.most-held-by-half.result c.by-nodes.result arcs c.loop-count-loops.ensures c.opposite-count.ensures c.most-held-by-half.ensures.value c.by-nodes.ensures.value;
-      bound = no_more_are_held ix m c.args.touched c.arc-count-arcs.result c.loop-count-loops.result c.opposite-count.result c.most-held-by-half.result c.by-nodes.result arcs c.loop-count-loops.ensures c.opposite-count.ensures c.by-nodes.ensures.value c.most-held-by-half.ensures.bound c.by-nodes.ensures.bound;
+      value = are_bounds ix m c.args.touched c.arc_count-arcs.result c.loop_count-loops.result c.opposite_count.result c.most_held_by_half.result c.by_nodes.result arcs c.loop_count-loops.ensures c.opposite_count.ensures c.most_held_by_half.ensures.value c.by_nodes.ensures.value;
+      bound = no_more_are_held ix m c.args.touched c.arc_count-arcs.result c.loop_count-loops.result c.opposite_count.result c.most_held_by_half.result c.by_nodes.result arcs c.loop_count-loops.ensures c.opposite_count.ensures c.by_nodes.ensures.value c.most_held_by_half.ensures.bound c.by_nodes.ensures.bound;
     }

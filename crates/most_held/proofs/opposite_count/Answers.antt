@@ -14,10 +14,10 @@ loop-position-preserved g c =
     let test = opposed g.N.NodeKey.index m in
     let arcs = arcs_shown m in
     let i = c.loop-position.position in
-    elim c.match-arc-at.branch [
-      | goal.in-Some+then-has-opposite w ↦ let e = count_more test arcs i w.in-Some.arc true w.in-Some.ensures w.if-has-opposite.ensures in let n = w.opposites-is in (omega arith, omega arith)
-      | goal.in-Some+else-has-opposite w ↦ let e = count_more test arcs i w.in-Some.arc false w.in-Some.ensures w.if-has-opposite.ensures in let n = w.opposites-is in (omega arith, omega arith)
-      | goal.in-default w ↦ absurd (let l = nth_some arcs i w.in-default.ensures in omega arith)
+    elim c.match-arc_at.branch [
+      | goal.in-Some+then-has_opposite w ↦ let e = count_more test arcs i w.in-Some.arc true w.in-Some.ensures w.if-has_opposite.ensures in let n = w.opposites-is in (omega arith, omega arith)
+      | goal.in-Some+else-has_opposite w ↦ let e = count_more test arcs i w.in-Some.arc false w.in-Some.ensures w.if-has_opposite.ensures in let n = w.opposites-is in (omega arith, omega arith)
+      | goal.in_default w ↦ absurd (let l = nth_some arcs i w.in_default.ensures in omega arith)
     ]
 
 pub returns : goal.returns

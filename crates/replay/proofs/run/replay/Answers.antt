@@ -19,9 +19,9 @@ returns-in-Ok g c =
     record {
       run = (
         f,
-        ran g.N.NodeKey.index g.met.N.NodeKey.differs (length p.nodes.now) (length p.arcs.now) c.args.steps.now c.replay-edits.new.steps
-            (map_model c.with-capacity.new.self) (map_model c.replay-edits.new.map) (map_model c.open.result.map.now) c.args.ordering.now c.greedy-feedback-arc-set.new.self c.greedy-feedback-arc-set.result
-            (w.shown ∙ cond-true (places_fit p) _ _ f) c.replay-edits.ensures.shown c.replay-edits.ensures.steps (ap map_model c.open.ensures) c.greedy-feedback-arc-set.ensures.answer c.greedy-feedback-arc-set.ensures.leaves,
+        ran g.N.NodeKey.index g.met.N.NodeKey.differs (length p.nodes.now) (length p.arcs.now) c.args.steps.now c.replay_edits.new.steps
+            (map_model c.with_capacity.new.self) (map_model c.replay_edits.new.map) (map_model c.open.result.map.now) c.args.ordering.now c.greedy_feedback_arc_set.new.self c.greedy_feedback_arc_set.result
+            (w.shown ∙ cond-true (places_fit p) _ _ f) c.replay_edits.ensures.shown c.replay_edits.ensures.steps (ap map_model c.open.ensures) c.greedy_feedback_arc_set.ensures.answer c.greedy_feedback_arc_set.ensures.leaves,
       );
       promises = all_promises;
     }
