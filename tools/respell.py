@@ -9,9 +9,10 @@ their spelling. A name that the library also has is renamed only in files that d
 
 import os
 import re
+import subprocess
 import sys
 
-KIT = os.path.join(os.path.dirname(os.path.realpath("/opt/rattle/port/port.py")), "..")
+KIT = os.path.dirname(subprocess.run(["rt", "doc"], stdout=subprocess.PIPE, text=True, check=True).stdout.strip())
 NAME = r"[A-Za-z_][A-Za-z0-9_'\u2032\u2080-\u2089-]*"
 TOKEN = re.compile(r"(?<![A-Za-z0-9_'\u2032\u2080-\u2089-])" + NAME)
 DECLARED = re.compile(r"^\s*(?:(?:pub|abbrev|unfoldable|private)\s+)*(" + NAME + r"(?:\s+" + NAME + r")*)\s+:\s+(.*)$")

@@ -7,7 +7,6 @@ use Rattle.keyed_table.specs.Chains.{blank_slot}
 use Rattle.keyed_table.specs.Tables.{listing, places}
 use Rattle.network.specs.Counting.{has, EachOnce}
 use Rattle.network.specs.Network.{Link, touched}
-use Rattle.network.specs.Places.{place}
 use Rattle.greedy_order.specs.Part3Order.{greedy_order}
 use Rattle.feedback_arc_set.specs.declared.fas_node.FasNode.{FasNode}
 use Rattle.feedback_arc_set.specs.declared.places.NeighbourPlace.{NeighbourPlace}

@@ -1,13 +1,11 @@
 -- Link places that hold nothing.
-use Rattle.std.proofs.Common.{◌≡◌, ℕ, zero, suc, ◌*◌, ◌≤◌, true, ◌&&◌, leb, List, [], ◌∷◌, map, length, get_or, replicate, sym, refl, ap, ◌∙◌, arith}
+use Rattle.std.proofs.Common.{◌≡◌, ℕ, zero, suc, ◌*◌, ◌≤◌, true, ◌&&◌, leb, length, sym, refl, ◌∙◌, arith}
 use Rattle.std.proofs.lemmas.List.{length-map, length-replicate}
 use Rattle.std.proofs.lemmas.Bool.{and_parts, leb-true}
 use Rattle.keyed_table.specs.Chains.{room_of}
-use Rattle.linked_list.specs.declared.position.Position.TheVariants.{Free}
-use Rattle.map_layout.specs.Layout.{Idle, model}
+use Rattle.map_layout.specs.Layout.{Idle}
 use Rattle.map_layout.specs.Edits.{Good}
 use Rattle.map_layout.proofs.Building.{empty_good}
-use Rattle.map_model.specs.Model.{built}
 use Rattle.graphmap.specs.Places.{blank_place, blank_places, neighbors, positions_of}
 use Rattle.graphmap.specs.Capacity.{counts_fit}
 use Rattle.graphmap.specs.States.{emptied}

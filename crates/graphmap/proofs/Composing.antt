@@ -1,5 +1,5 @@
 -- One step on the tables, from what the calls in it do.
-use Rattle.std.proofs.Common.{◌≡◌, ℕ, ◌+◌, ◌-◌, ◌%◌, ◌<◌, Bool, true, false, cond, eqb, List, [], ◌∷◌, map, length, set, Some, None, Option, unwrap_or, sym, refl, ap, ◌∙◌, subst, arith}
+use Rattle.std.proofs.Common.{◌≡◌, ℕ, ◌+◌, ◌-◌, ◌%◌, ◌<◌, Bool, true, false, cond, eqb, List, [], ◌∷◌, map, length, set, Some, None, Option, unwrap_or, sym, refl, ap, ◌∙◌, arith}
 use Rattle.std.proofs.lemmas.Bool.{cond-true, cond-false, eq-eqb, ne_eqb}
 use Rattle.linked_list.specs.declared.position.Position.{Position}
 use Rattle.linked_list.specs.declared.position.Position.TheVariants.{Free}
@@ -12,12 +12,12 @@ use Rattle.map_layout.specs.declared.records.ArcRecord.{ArcRecord}
 use Rattle.map_layout.specs.declared.records.Neighbor.{Neighbor}
 use Rattle.map_layout.specs.Layout.{State, NodeItem, ArcItem, numbered, partner}
 use Rattle.map_layout.specs.Edits.{ends_number, ends_of, neighbor, both_linked_at, laid, number_at, unlinked_at, cut}
-use Rattle.map_layout.proofs.Items.{Stands, value_some, without_taken}
+use Rattle.map_layout.proofs.Items.{value_some, without_taken}
 use Rattle.map_layout.proofs.Members.{length_taken}
 use Rattle.map_model.proofs.Searching.{found_counts}
 use Rattle.map_layout.specs.Steps.{linked_at, arc_put, arc_gone, node_at, node_put, linked_to, swapped_from, swapped_out_of, dropped_from, dropped_out_of, else_some, last_swapped, unused_place, new_place, taken_from, place_taken, place_given}
 use Rattle.graphmap.specs.declared.link_place.LinkPlace.{LinkPlace}
-use Rattle.graphmap.specs.Places.{neighbors, positions_of}
+use Rattle.graphmap.specs.Places.{neighbors}
 
 -- by another name of the test
 pub by_test : {X : Type 0} (b c : Bool) (x y z : X) → z ≡ cond b x y → b ≡ c → z ≡ cond c x y

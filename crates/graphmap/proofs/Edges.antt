@@ -1,8 +1,7 @@
 -- Every link that is shown has its arc.
-use Rattle.std.proofs.Common.{◌≡◌, ℕ, ◌+◌, ◌≤◌, Bool, true, false, cond, List, [], ◌∷◌, length, is_some, Some, None, Option, sym, refl, ap, ◌∙◌, subst, arith}
+use Rattle.std.proofs.Common.{◌≡◌, ℕ, ◌≤◌, Bool, true, false, cond, List, [], ◌∷◌, is_some, Some, None, Option, sym, refl, ap, ◌∙◌, subst, arith}
 use mathlib.Core.List.{Memᴰ}
 use mathlib.Core.Logic.{∥∥₁_map}
-use Rattle.std.specs.Option.{option_map}
 use Rattle.map_model.specs.declared.CompactDirection.{CompactDirection}
 use Rattle.map_model.specs.declared.CompactDirection.TheVariants.{Outgoing, Incoming}
 use Rattle.map_model.specs.Lists.{All, kept, found, count}

@@ -1,19 +1,18 @@
 -- A cursor over the links of a node begins at the oldest.
-use Rattle.std.proofs.Common.{◌≡◌, ℕ, suc, ◌+◌, ◌≤◌, List, [], ◌∷◌, ◌++◌, reverse, length, get_or, Some, None, Option, sym, refl, ap, ◌∙◌, subst, append_assoc, append-nil, arith}
-use mathlib.Core.List.{reverse-cons, reverse-append}
+use Rattle.std.proofs.Common.{◌≡◌, ℕ, suc, List, [], ◌∷◌, ◌++◌, reverse, get_or, Some, None, Option, sym, refl, ap, ◌∙◌, subst, append_assoc, append-nil, arith}
+use mathlib.Core.List.{reverse-cons}
 use Rattle.std.specs.Option.{option_map}
 use Rattle.std.proofs.lemmas.List.{length-reverse}
 use Rattle.linked_list.specs.declared.position.Position.{Position}
-use Rattle.linked_list.specs.declared.position.Position.TheVariants.{In}
-use Rattle.linked_list.specs.Places.{at, prev_of}
-use Rattle.linked_list.specs.Chains.{first, last, last_from, Chain, Holds, entries_of}
+use Rattle.linked_list.specs.Places.{prev_of}
+use Rattle.linked_list.specs.Chains.{last, last_from, Chain, Holds}
 use Rattle.linked_list.proofs.Linking.{holds_length}
 use Rattle.map_model.specs.declared.CompactDirection.{CompactDirection}
 use Rattle.map_model.specs.Lists.{kept, found}
-use Rattle.map_model.specs.Model.{Link, named, links_of, links_at}
+use Rattle.map_model.specs.Model.{Link, named, links_of}
 use Rattle.map_model.specs.Shown.{shows, links_shown}
 use Rattle.map_layout.specs.declared.records.Neighbor.{Neighbor}
-use Rattle.map_layout.specs.Layout.{State, NodeItem, numbered, of_node, Rep, links_in, link_at, link_to, places_of, node_of, model}
+use Rattle.map_layout.specs.Layout.{State, NodeItem, numbered, of_node, links_in, link_at, link_to, places_of, node_of, model}
 use Rattle.map_layout.specs.Edits.{Good, oldest_of, oldest_at}
 use Rattle.map_layout.specs.Steps.{node_at}
 use Rattle.map_layout.proofs.Items.{value_of, value_found}

@@ -1,5 +1,5 @@
 -- What a cursor over links answers.
-use Rattle.std.proofs.Common.{◌≡◌, ℕ, ◌+◌, ◌≤◌, List, [], ◌∷◌, length, Some, None, Option, sym, refl, ap, ◌∙◌, subst, arith}
+use Rattle.std.proofs.Common.{◌≡◌, ℕ, List, [], Some, None, Option, sym, refl, ap, subst, arith}
 use mathlib.Core.Logic.{∥∥₁_map}
 use Rattle.std.specs.Option.{option_map}
 use Rattle.map_model.specs.declared.CompactDirection.{CompactDirection}

@@ -1,13 +1,12 @@
 -- What a cursor over the links of a node has still to show.
-use Rattle.std.specs.Prelude.{◌≡◌, ℕ, ◌+◌, ◌≤◌, Bool, true, cond, List, [], ◌∷◌, map, length, is_some, Some, None, Option}
+use Rattle.std.specs.Prelude.{◌≡◌, ℕ, ◌+◌, ◌≤◌, true, List, [], ◌∷◌, length, is_some, Some, None, Option}
 use Rattle.linked_list.specs.declared.position.Position.{Position}
 use Rattle.linked_list.specs.Places.{at, prev_of}
 use Rattle.map_model.specs.declared.CompactDirection.{CompactDirection}
 use Rattle.map_model.specs.Lists.{kept}
 use Rattle.map_model.specs.Model.{Link, Arc}
 use Rattle.map_model.specs.Shown.{shows, edge_of}
-use Rattle.map_layout.specs.declared.records.Neighbor.{Neighbor}
-use Rattle.map_layout.specs.Layout.{State, links_in, link_to}
+use Rattle.map_layout.specs.Layout.{State, links_in}
 use Rattle.graphmap.specs.declared.link_found.LinkFound.{LinkFound}
 
 -- the places from s on, from older links to newer ones

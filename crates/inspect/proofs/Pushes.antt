@@ -1,5 +1,5 @@
 -- Text that grows at its end.
-use Rattle.std.proofs.Common.{◌≡◌, ℕ, ◌+◌, ◌<◌, ◌≤◌, cond, List, [], ◌∷◌, ◌++◌, length, get_or, take, is_ok, IfOk, Some, None, Ok, Err, codes, Result, sym, refl, ap, ◌∙◌, append_assoc, arith}
+use Rattle.std.proofs.Common.{◌≡◌, ℕ, ◌+◌, ◌<◌, ◌≤◌, cond, List, [], ◌∷◌, ◌++◌, length, get_or, take, is_ok, IfOk, Some, None, Ok, Err, codes, Result, sym, ap, ◌∙◌, append_assoc, arith}
 use Rattle.decimal.specs.Digits.{digits}
 use Rattle.fault.specs.declared.Fault.{Fault}
 use Rattle.network_file.specs.Checks.{checked}

@@ -1,11 +1,11 @@
 -- The steps of the calls of a table, over its slots s, which keep a list of n items.
-use Rattle.std.proofs.Common.{◌≡◌, ℕ, suc, ◌+◌, ◌-◌, ◌^◌, ◌<◌, ◌≤◌, Bool, true, false, cond, eqb, ltb, List, [], ◌∷◌, length, get_or, take, set, replicate, is_some, Some, None, Ok, Err, Option, sym, refl, ap, ◌∙◌, subst, arith, MatchOption}
+use Rattle.std.proofs.Common.{◌≡◌, ℕ, suc, ◌+◌, ◌-◌, ◌<◌, ◌≤◌, Bool, true, false, cond, eqb, ltb, List, [], ◌∷◌, length, get_or, set, replicate, is_some, Some, None, Ok, Err, Option, sym, refl, ap, ◌∙◌, subst, arith}
 use Rattle.std.specs.List.{slice_get}
 use Rattle.std.proofs.lemmas.List.{length-map, length-set, length-replicate}
-use Rattle.std.proofs.lemmas.Bool.{lt-ltb, le-ltb, ltb-true, ltb-false}
+use Rattle.std.proofs.lemmas.Bool.{le-ltb, ltb-true, ltb-false}
 use Rattle.keyed_table.specs.declared.slots.Item.{Item}
 use Rattle.keyed_table.specs.declared.slots.Slot.{Slot}
-use Rattle.keyed_table.specs.Chains.{items, listed, somes, Kept, Chains, Filled, held, holds_number, value_in, revalued, filled_gap, room_of, blank_slot}
+use Rattle.keyed_table.specs.Chains.{items, listed, Kept, Chains, Filled, held, holds_number, value_in, revalued, filled_gap, room_of, blank_slot}
 use Rattle.keyed_table.specs.Listing.{Different, place, has, found, value_at, insert_answer, inserted, changed_at, without}
 use Rattle.keyed_table.proofs.Mending.{blank_filled, blank_linked}
 use Rattle.keyed_table.proofs.Listed.{length_listed, nth_listed, listed_different, found_at, found_none, answer_some, answer_none, value_some, value_absent, put_filled, put_apart, put_changed, kept_changed, add_filled, add_apart, replaced, pushed, refused, removed_filled, removed_apart, removed_listed, kept_listed}

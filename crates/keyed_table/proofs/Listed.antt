@@ -1,15 +1,15 @@
 -- The list of the items of a slice of slots, of which the first n are in use.
-use Rattle.std.proofs.Common.{◌≡◌, ℕ, zero, suc, ◌+◌, ◌-◌, ◌<◌, ◌≤◌, min, Bool, true, false, cond, eqb, ltb, ◌≢◌, List, [], ◌∷◌, ◌++◌, map, length, get_or, take, drop, set, is_some, Some, None, Ok, Err, Option, sym, refl, ap, ◌∙◌, subst, inl, inr, ⊎_elim, arith, MatchOption}
+use Rattle.std.proofs.Common.{◌≡◌, ℕ, zero, suc, ◌+◌, ◌-◌, ◌<◌, ◌≤◌, Bool, true, false, cond, eqb, ltb, ◌≢◌, List, [], ◌∷◌, ◌++◌, map, length, get_or, take, set, is_some, Some, None, Ok, Err, Option, sym, refl, ap, ◌∙◌, subst, ⊎_elim, arith, MatchOption}
 use lib.Seq.{take-set-lt, map-set}
-use Rattle.std.proofs.lemmas.List.{length-set, length-map, length-take-le, get_or-set_same, get_or-set_other, get_or-take, get_or_default, get_or-map, get_or_past, take-take, take_more_set, length_push, map_push, take-map, same_lists, set_past}
+use Rattle.std.proofs.lemmas.List.{length-set, length-map, length-take-le, get_or-set_same, get_or-set_other, get_or-take, get_or_default, get_or-map, take_more_set, map_push, same_lists, set_past}
 use Rattle.std.proofs.lemmas.Option.{slice_get-get_or, slice_get_past}
 use Rattle.std.specs.List.{slice_get}
 use Rattle.std.proofs.lemmas.Bool.Decides.{nat_tests}
-use Rattle.std.proofs.lemmas.Bool.{true≢false, false≢true, ne_eqb, cases_eq, cases_lt, eq-eqb, eqb-true, eqb-false, lt-ltb, le-ltb, cond-true, cond-false}
+use Rattle.std.proofs.lemmas.Bool.{true≢false, false≢true, ne_eqb, cases_eq, cases_lt, eq-eqb, eqb-true, lt-ltb, le-ltb, cond-true, cond-false}
 use Rattle.keyed_table.specs.declared.slots.Item.{Item}
-use Rattle.keyed_table.specs.Chains.{held, number_of, numbers, holds_number, Filled, Apart, last, somes, value_in, revalued, filled_gap}
+use Rattle.keyed_table.specs.Chains.{held, number_of, numbers, holds_number, Filled, Apart, somes, value_in, revalued, filled_gap}
 use Rattle.keyed_table.specs.Listing.{Different, place, has, found, value_at, with_value, written, changed_at, swapped_out, without, answered, left}
-use Rattle.keyed_table.proofs.Last.{IsLast, last_is, is_last, none_last, last_none}
+use Rattle.keyed_table.proofs.Last.{last_is, none_last, last_none}
 
 -- ---- lists of options
 held_none : {K V : Type 0} (o : Option (Item K V)) → held o ≡ false → o ≡ None

@@ -1,14 +1,14 @@
 -- The steps of the calls on the chains of a slice of slots.
-use Rattle.std.proofs.Common.{◌≡◌, ℕ, zero, suc, ◌+◌, ◌-◌, ◌*◌, ◌/◌, ◌%◌, ◌^◌, ◌<◌, ◌≤◌, min, Bool, true, false, cond, eqb, ltb, leb, ◌≢◌, List, [], ◌∷◌, map, length, get_or, set, replicate, Some, None, Option, sym, refl, ap, ◌∙◌, subst, inl, inr, ⊎_elim, mod-lt, mul_comm, div-lt_iff_lt-mul, mul-le-mul, mul-lt-mul_of_pos_right, arith, lit<}
+use Rattle.std.proofs.Common.{◌≡◌, ℕ, zero, suc, ◌+◌, ◌-◌, ◌*◌, ◌/◌, ◌%◌, ◌^◌, ◌<◌, ◌≤◌, min, Bool, true, false, cond, eqb, ltb, leb, ◌≢◌, List, [], ◌∷◌, length, get_or, set, replicate, Some, None, Option, sym, refl, ap, ◌∙◌, subst, ⊎_elim, mod-lt, mul_comm, div-lt_iff_lt-mul, mul-le-mul, mul-lt-mul_of_pos_right, arith, lit<}
 use native.Mathlib.Nat.{min-le_left, min-le_right}
 use Rattle.std.proofs.lemmas.List.{length-set, length-map, length-replicate, get_or-set_same, get_or-set_other, get_or_past, get_or_default, get_or-replicate, same_lists, set_past}
 use Rattle.keys.specs.Numbers.{mixed}
 use Rattle.std.proofs.lemmas.Bool.Decides.{nat_tests}
-use Rattle.std.proofs.lemmas.Bool.{true≢false, false≢true, ne_eqb, cases_eq, cases_lt, lt-ltb, le-ltb, le-leb, eq-eqb, eqb-true, eqb-false, cond-true, cond-false}
+use Rattle.std.proofs.lemmas.Bool.{true≢false, false≢true, ne_eqb, cases_eq, cases_lt, lt-ltb, le-ltb, le-leb, eq-eqb, eqb-true, cond-true, cond-false}
 use Rattle.keyed_table.specs.declared.slots.Item.{Item}
 use Rattle.keyed_table.specs.declared.slots.Slot.{Slot}
-use Rattle.keyed_table.specs.Chains.{last, items, heads, nexts, home, homes, bucket, room_of, falling, held, number_of, holds_number, Linked, Chains, Above, heads_to, nexts_to, Filled, revalued, filled_gap, blank_slot}
-use Rattle.keyed_table.proofs.Last.{IsLast, last_is, is_last, Walk, walk_more, walk_end, walk_in, Chained, Cell, Differ, linking, unlinking, Sought, sought_none, sought_more, none_last, chained_agree}
+use Rattle.keyed_table.specs.Chains.{items, heads, nexts, home, homes, bucket, falling, held, holds_number, Linked, Chains, Above, heads_to, nexts_to, Filled, revalued, filled_gap, blank_slot}
+use Rattle.keyed_table.proofs.Last.{IsLast, last_is, is_last, Walk, walk_more, walk_in, Chained, Cell, Differ, linking, unlinking, Sought, sought_none, sought_more, none_last, chained_agree}
 
 pub mixed_lt : (k : ℕ) → mixed k < 2 ^ 32
 mixed_lt k = (div-lt_iff_lt-mul {k = 2 ^ 32} {x = k * 11400714819323198485 % 2 ^ 64} {y = 2 ^ 32} (lit< tt)).1 (mod-lt (k * 11400714819323198485) (lit< tt))

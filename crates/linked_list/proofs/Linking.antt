@@ -1,12 +1,12 @@
 -- What a start and the positions stand for: entries that are in, out, or apart.
-use Rattle.std.proofs.Common.{◌≡◌, ℕ, zero, suc, ◌<◌, ◌≤◌, Bool, true, false, cond, not, ◌&&◌, ◌||◌, eqb, ◌≢◌, List, [], ◌∷◌, ◌++◌, length, get_or, set, Some, None, Option, sym, refl, ap, ◌∙◌, subst, inl, inr, ⊎_elim, arith}
+use Rattle.std.proofs.Common.{◌≡◌, ℕ, zero, suc, ◌<◌, ◌≤◌, true, false, ◌||◌, eqb, ◌≢◌, List, [], ◌∷◌, ◌++◌, length, set, Some, None, Option, sym, refl, ap, ◌∙◌, subst, ⊎_elim, arith}
 use Rattle.linked_list.specs.declared.position.Position.{Position}
 use Rattle.linked_list.specs.declared.position.Position.TheVariants.{Free, In}
-use Rattle.std.proofs.lemmas.List.{length-set, get_or-set_same, get_or-set_other, get_or_past}
-use Rattle.std.proofs.lemmas.Bool.{cases_eq, cases_Bool, both_ways, eq-eqb, ne_eqb, cond-true, cond-false, cond_both, or_cases, eqb-true}
+use Rattle.std.proofs.lemmas.List.{get_or-set_other}
+use Rattle.std.proofs.lemmas.Bool.{cases_eq, cases_Bool, both_ways, ne_eqb, cond_both, or_cases, eqb-true}
 use Rattle.linked_list.specs.Places.{is_in, prev_of, next_of, at}
-use Rattle.linked_list.specs.Chains.{has, first, rest, last_from, last, spliced, without, Chain, Holds, Other, walk, entries_of}
-use Rattle.linked_list.proofs.Members.{none_first, none_rest, none_cons, has_head, has_tail, has_first, first_not, has_not, none_not, spliced_here, spliced_later, none_spliced}
+use Rattle.linked_list.specs.Chains.{has, first, last_from, last, without, Chain, Holds, Other, walk, entries_of}
+use Rattle.linked_list.proofs.Members.{none_first, none_rest, none_cons, has_first, first_not, spliced_here, spliced_later, none_spliced}
 use Rattle.linked_list.proofs.Reading.{in_range}
 
 -- ---- one entry of a chain

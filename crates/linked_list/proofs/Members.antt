@@ -1,7 +1,7 @@
 -- Being in a list of indices.
-use Rattle.std.proofs.Common.{◌≡◌, ℕ, Bool, true, false, cond, not, ◌&&◌, ◌||◌, eqb, ◌≢◌, List, [], ◌∷◌, ◌++◌, Some, None, Option, sym, refl, ap, ◌∙◌, subst, inl, inr, ⊎_elim, arith}
-use Rattle.std.proofs.lemmas.Bool.{cases_eq, eq-eqb, ne_eqb, eqb-true, eqb-false, cond-true, cond-false, cond_both, cases_Bool, both_ways, or_parts, or_from, or_left, or_right, or_cases, false≢true}
-use Rattle.linked_list.specs.Chains.{has, first, rest, spliced, without, replaced}
+use Rattle.std.proofs.Common.{◌≡◌, ℕ, true, false, ◌||◌, eqb, ◌≢◌, List, [], ◌∷◌, ◌++◌, Some, sym, refl, ap, ◌∙◌, subst, ⊎_elim, arith}
+use Rattle.std.proofs.lemmas.Bool.{eq-eqb, ne_eqb, eqb-false, cond-true, cond-false, cond_both, cases_Bool, both_ways, or_parts, or_from, or_left, or_right}
+use Rattle.linked_list.specs.Chains.{has, first, spliced}
 
 pub none_first : (x : ℕ) (l : List ℕ) (j : ℕ) → has (x ∷ l) j ≡ false → j ≢ x
 none_first x l j h e = eqb-false x j (or_parts (eqb x j) (has l j) h).0 (sym e)

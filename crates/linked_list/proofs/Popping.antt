@@ -1,16 +1,16 @@
 -- What a pop comes to for every list.
-use Rattle.std.proofs.Common.{◌≡◌, ℕ, ◌<◌, ◌≤◌, Bool, true, false, cond, not, ◌&&◌, ◌||◌, ◌≢◌, List, [], ◌∷◌, ◌++◌, length, get_or, set, Some, None, Option, sym, refl, ap, ◌∙◌, subst, inl, inr, ⊎_elim, arith}
+use Rattle.std.proofs.Common.{◌≡◌, ℕ, true, false, cond, List, [], ◌∷◌, Some, None, Option, sym, refl, ap, ◌∙◌, subst, arith}
 use Rattle.linked_list.specs.declared.position.Position.{Position}
-use Rattle.linked_list.specs.declared.position.Position.TheVariants.{Free, In}
+use Rattle.linked_list.specs.declared.position.Position.TheVariants.{In}
 use Rattle.std.proofs.lemmas.Bool.{true≢false, cond-true}
-use Rattle.linked_list.specs.Places.{is_in, prev_of, next_of, at}
-use Rattle.linked_list.specs.Chains.{has, first, rest, spliced, without, Chain, Holds, Other, can_remove, after_remove, start_after_remove, can_pop, after_pop, start_after_pop}
-use Rattle.linked_list.specs.Laws.{Becomes, OthersStay, StatusStays}
+use Rattle.linked_list.specs.Places.{prev_of, next_of, at}
+use Rattle.linked_list.specs.Chains.{first, rest, Holds, can_remove, after_remove, start_after_remove, can_pop, after_pop, start_after_pop}
+use Rattle.linked_list.specs.Laws.{Becomes, OthersStay}
 use Rattle.linked_list.proofs.Members.{spliced_here, spliced_none, has_first}
 use Rattle.linked_list.proofs.Reading.{moved_there}
 use Rattle.linked_list.proofs.Linking.{not_shared}
 use Rattle.linked_list.proofs.Splicing.{Between}
-use Rattle.linked_list.proofs.Removing.{between, removed_list, removed_other, remove_free, remove_in, remove_length, listed_can}
+use Rattle.linked_list.proofs.Removing.{between, removed_list, removed_other, listed_can}
 
 -- the first entry that can be taken out has none before it
 pub front_alone : (L : List Position) (f : ℕ) → can_remove L (Some f) f ≡ true → at L f ≡ In None (next_of (at L f))

@@ -1,15 +1,15 @@
 -- What a push comes to for every list.
-use Rattle.std.proofs.Common.{◌≡◌, ℕ, ◌<◌, ◌≤◌, Bool, true, false, cond, not, ◌&&◌, ◌||◌, eqb, ltb, ◌≢◌, List, [], ◌∷◌, ◌++◌, length, get_or, set, Some, None, Option, sym, refl, ap, ◌∙◌, subst, inl, inr, ⊎_elim, arith}
+use Rattle.std.proofs.Common.{◌≡◌, ℕ, ◌<◌, true, false, not, ◌&&◌, ltb, ◌≢◌, List, [], ◌∷◌, length, Some, None, Option, sym, refl, ap, ◌∙◌, subst, arith}
 use Rattle.linked_list.specs.declared.position.Position.{Position}
 use Rattle.linked_list.specs.declared.position.Position.TheVariants.{Free, In}
 use Rattle.std.proofs.lemmas.List.{length-set, get_or-set_same, get_or-set_other}
-use Rattle.std.proofs.lemmas.Bool.{cases_eq, cases_Bool, both_ways, and_parts, and_from, not-true, ltb-true, true≢false}
-use Rattle.linked_list.specs.Places.{is_in, is_none, prev_of, next_of, with_prev, with_next, names, at, prev_set}
-use Rattle.linked_list.specs.Chains.{has, first, rest, Chain, Holds, Other, is_front, can_push, after_push}
+use Rattle.std.proofs.lemmas.Bool.{and_parts, and_from, not-true, ltb-true, true≢false}
+use Rattle.linked_list.specs.Places.{is_in, is_none, prev_of, next_of, with_prev, at, prev_set}
+use Rattle.linked_list.specs.Chains.{has, first, Chain, Holds, Other, is_front, can_push, after_push}
 use Rattle.linked_list.specs.Laws.{Becomes, OthersStay, StatusStays}
-use Rattle.linked_list.proofs.Members.{none_first, none_rest, none_cons}
-use Rattle.linked_list.proofs.Reading.{in_range, prev_set_length, prev_set_in, prev_set_other, prev_set_here}
-use Rattle.linked_list.proofs.Linking.{free_is, free_not_in, head_not_in, not_shared, chain_set, frame}
+use Rattle.linked_list.proofs.Members.{none_cons}
+use Rattle.linked_list.proofs.Reading.{prev_set_length, prev_set_in, prev_set_here}
+use Rattle.linked_list.proofs.Linking.{free_is, free_not_in, not_shared, chain_set, frame}
 
 -- i is there and free, and nothing stands before the start
 pub record Pushable (L : List Position) (start : Option ℕ) (i : ℕ) : Type 0 where

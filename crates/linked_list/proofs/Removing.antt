@@ -1,12 +1,12 @@
 -- What a removal, and a replacement, comes to for every list.
-use Rattle.std.proofs.Common.{◌≡◌, ℕ, ◌<◌, ◌≤◌, Bool, true, false, cond, not, ◌&&◌, ◌||◌, eqb, ◌≢◌, List, [], ◌∷◌, ◌++◌, length, get_or, set, Some, None, Option, sym, refl, ap, ◌∙◌, subst, inl, inr, ⊎_elim, arith}
+use Rattle.std.proofs.Common.{◌≡◌, ℕ, ◌<◌, true, false, not, ◌&&◌, eqb, ◌≢◌, List, [], ◌∷◌, length, set, Some, None, Option, sym, refl, ap, ◌∙◌, subst, ⊎_elim, arith}
 use Rattle.linked_list.specs.declared.position.Position.{Position}
 use Rattle.linked_list.specs.declared.position.Position.TheVariants.{Free, In}
 use Rattle.std.proofs.lemmas.List.{length-set, get_or-set_same, get_or-set_other}
-use Rattle.std.proofs.lemmas.Bool.{cases_eq, cases_Bool, both_ways, and_parts, and_from, not-true, not_from_false, false≢true, true≢false, or_cases, eqb-true}
-use Rattle.linked_list.specs.Places.{is_in, prev_of, next_of, with_prev, with_next, names, at}
+use Rattle.std.proofs.lemmas.Bool.{cases_Bool, both_ways, and_parts, and_from, not-true, not_from_false, false≢true, or_cases, eqb-true}
+use Rattle.linked_list.specs.Places.{is_in, prev_of, next_of, names, at}
 use Rattle.linked_list.specs.Chains.{has, first, rest, spliced, without, replaced, Chain, Holds, Other, leads_to, points_back, can_remove, relinked, after_remove, start_after_remove, after_replace, moved}
-use Rattle.linked_list.specs.Laws.{Becomes, OthersStay, OthersBecome, OthersStayIfListed, StatusStays}
+use Rattle.linked_list.specs.Laws.{Becomes, OthersBecome, OthersStayIfListed, StatusStays}
 use Rattle.linked_list.proofs.Members.{none_first, none_rest, none_cons, first_not, has_head, spliced_none}
 use Rattle.linked_list.proofs.Reading.{in_range, named, not_named, names_some, names_none, relinked_length, relinked_in, relinked_other, relinked_left, relinked_right}
 use Rattle.linked_list.proofs.Linking.{free_not_in, lists_apart}

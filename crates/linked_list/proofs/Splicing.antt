@@ -1,12 +1,12 @@
 -- An entry that leaves a list, with nothing or another in its place.
-use Rattle.std.proofs.Common.{◌≡◌, ℕ, ◌<◌, ◌≤◌, Bool, true, false, cond, not, ◌&&◌, ◌||◌, eqb, ◌≢◌, List, [], ◌∷◌, ◌++◌, length, get_or, set, Some, None, Option, sym, refl, ap, ◌∙◌, subst, inl, inr, ⊎_elim, arith}
+use Rattle.std.proofs.Common.{◌≡◌, ℕ, true, false, ◌≢◌, List, [], ◌∷◌, ◌++◌, Some, None, Option, sym, ap, ◌∙◌, subst, ⊎_elim, arith}
 use Rattle.linked_list.specs.declared.position.Position.{Position}
-use Rattle.linked_list.specs.declared.position.Position.TheVariants.{Free, In}
-use Rattle.std.proofs.lemmas.Bool.{cases_eq, cases_Bool, both_ways}
-use Rattle.linked_list.specs.Places.{is_in, prev_of, next_of, with_prev, with_next, names, at}
-use Rattle.linked_list.specs.Chains.{has, first, rest, spliced, without, replaced, Chain, Holds, Other, moved}
-use Rattle.linked_list.proofs.Members.{none_first, none_rest, none_cons, has_head, has_tail, has_first, first_not, spliced_here, spliced_later, none_spliced, first_spliced}
-use Rattle.linked_list.proofs.Reading.{in_range, moved_there, moved_other, some_cases}
+use Rattle.linked_list.specs.declared.position.Position.TheVariants.{In}
+use Rattle.std.proofs.lemmas.Bool.{cases_eq}
+use Rattle.linked_list.specs.Places.{prev_of, next_of, with_prev, with_next, at}
+use Rattle.linked_list.specs.Chains.{has, first, spliced, Chain, Holds, Other, moved}
+use Rattle.linked_list.proofs.Members.{none_first, none_rest, has_head, has_tail, first_not, spliced_here, spliced_later, none_spliced, first_spliced}
+use Rattle.linked_list.proofs.Reading.{moved_there, moved_other, some_cases}
 use Rattle.linked_list.proofs.Linking.{starts_alone}
 
 -- i stands between prev and next, which agree

@@ -1,17 +1,17 @@
 -- What comes of putting the first entry where another stood.
-use Rattle.std.proofs.Common.{◌≡◌, ℕ, ◌<◌, ◌≤◌, Bool, true, false, cond, not, ◌&&◌, ◌||◌, eqb, ◌≢◌, List, [], ◌∷◌, ◌++◌, length, get_or, set, Some, None, Option, sym, refl, ap, ◌∙◌, subst, inl, inr, ⊎_elim, arith}
+use Rattle.std.proofs.Common.{◌≡◌, ℕ, ◌<◌, true, false, eqb, ◌≢◌, List, [], ◌∷◌, length, Some, None, Option, sym, refl, ap, ◌∙◌, subst, ⊎_elim, arith}
 use Rattle.linked_list.specs.declared.position.Position.{Position}
 use Rattle.linked_list.specs.declared.position.Position.TheVariants.{Free, In}
-use Rattle.std.proofs.lemmas.Bool.{cases_eq, cases_Bool, both_ways, and_parts, and_from, eq-eqb, ne_eqb, cond-true, cond-false, true≢false, false≢true}
+use Rattle.std.proofs.lemmas.Bool.{cases_eq, and_parts, and_from, eq-eqb, ne_eqb, cond-true, cond-false, false≢true}
 use Rattle.linked_list.specs.Places.{is_in, prev_of, next_of, with_prev, at}
-use Rattle.linked_list.specs.Chains.{has, first, rest, spliced, without, replaced, swap_removed, Chain, Holds, Other, can_remove, after_remove, start_after_remove, after_replace, moved, can_pop, can_swap, after_swap, start_after_swap}
-use Rattle.linked_list.specs.Laws.{Becomes, OthersStay, OthersBecome, OthersStayIfListed, StatusStays}
-use Rattle.linked_list.proofs.Members.{spliced_here, spliced_none, has_first}
-use Rattle.linked_list.proofs.Reading.{in_range, moved_there, moved_other, some_cases, with_prev_next}
-use Rattle.linked_list.proofs.Linking.{lists_apart, not_shared, starts_alone}
-use Rattle.linked_list.proofs.Splicing.{Between, Spliced}
-use Rattle.linked_list.proofs.Removing.{between, can_of, listed_can, remove_spliced, remove_free, remove_in, remove_length, replaced_list, replaced_other, replace_free, replace_in, replace_comes, replace_length, not_listed}
-use Rattle.linked_list.proofs.Popping.{front_alone, front_start, front_list, front_other}
+use Rattle.linked_list.specs.Chains.{has, rest, replaced, swap_removed, Holds, Other, can_remove, after_remove, after_replace, moved, can_swap, after_swap, start_after_swap}
+use Rattle.linked_list.specs.Laws.{Becomes, OthersBecome, OthersStayIfListed, StatusStays}
+use Rattle.linked_list.proofs.Members.{spliced_none, has_first}
+use Rattle.linked_list.proofs.Reading.{in_range, moved_other, some_cases, with_prev_next}
+use Rattle.linked_list.proofs.Linking.{not_shared, starts_alone}
+use Rattle.linked_list.proofs.Splicing.{Between}
+use Rattle.linked_list.proofs.Removing.{between, can_of, listed_can, remove_spliced, remove_free, remove_in, remove_length, replaced_list, replace_free, replace_in, replace_comes, replace_length, not_listed}
+use Rattle.linked_list.proofs.Popping.{front_alone, front_list, front_other}
 
 -- ---- with the first entry f taken out, i stands between its neighbours still
 module _ (L : List Position) (f i : ℕ) (hf : can_remove L (Some f) f ≡ true) (hi : can_remove L (Some f) i ≡ true) (ne : f ≢ i) where

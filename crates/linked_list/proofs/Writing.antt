@@ -1,8 +1,8 @@
 -- One write after another comes to what the definitions say.
-use Rattle.std.proofs.Common.{◌≡◌, ℕ, cond, List, set, Some, None, Option, sym, refl, ap, ◌∙◌}
+use Rattle.std.proofs.Common.{◌≡◌, ℕ, List, set, Some, None, Option}
 use Rattle.linked_list.specs.declared.position.Position.{Position}
 use Rattle.linked_list.specs.declared.position.Position.TheVariants.{Free, In}
-use Rattle.linked_list.specs.Places.{prev_of, next_of, names, at, prev_set, next_set}
+use Rattle.linked_list.specs.Places.{prev_of, next_of, at, prev_set, next_set}
 use Rattle.linked_list.specs.Chains.{after_push, after_remove, start_after_remove, after_replace, moved}
 
 pub out_written : (L L1 L2 L3 : List Position) (i : ℕ) (v : Position) (p n : Option ℕ) → v ≡ at L i → p ≡ prev_of v → n ≡ next_of v

@@ -1,34 +1,24 @@
 -- A node or an arc is added.
-use Rattle.std.proofs.Common.{◌≡◌, ℕ, suc, ◌+◌, ◌-◌, ◌*◌, ◌/◌, ◌%◌, ◌^◌, ◌<◌, ◌≤◌, Bool, true, false, cond, ◌||◌, eqb, ltb, leb, ◌≢◌, ◌⊎◌, List, [], ◌∷◌, ◌++◌, map, length, get_or, set, Some, None, Ok, Err, Option, Result, sym, refl, ap, ◌∙◌, subst, inl, inr, ⊎_elim, arith}
+use Rattle.std.proofs.Common.{◌≡◌, ℕ, ◌+◌, ◌<◌, ◌≤◌, Bool, true, false, cond, ◌||◌, ltb, List, map, length, Some, None, Ok, Err, Option, Result, sym, refl, ap, ◌∙◌, subst, ⊎_elim, arith}
 use Rattle.std.specs.Option.{option_map}
-use Rattle.std.proofs.lemmas.List.{length-map, map_push, length_push, get_or-set_same, get_or-set_other}
-use Rattle.std.proofs.lemmas.Bool.{cases_eq, cases_lt, cases_Bool, both_ways, eq-eqb, ne_eqb, lt-ltb, le-ltb, or_left, or_right, or_from, cond-true, cond-false, leb-true, ltb-true}
+use Rattle.std.proofs.lemmas.List.{length-map}
+use Rattle.std.proofs.lemmas.Bool.{cases_lt, lt-ltb, le-ltb, or_left, or_right, or_from, cond-true, cond-false}
 use Rattle.linked_list.specs.declared.position.Position.{Position}
 use Rattle.linked_list.specs.Chains.{has, entries_of}
-use Rattle.linked_list.proofs.Linking.{free_not_in}
 use Rattle.keys.specs.declared.node_index.NodeIndex.{NodeIndex}
-use Rattle.keys.specs.Numbers.{pair_number}
 use Rattle.fault.specs.declared.Fault.{Fault}
-use Rattle.fault.specs.declared.Fault.TheVariants.{NodesFull, ArcsFull}
-use Rattle.map_model.specs.declared.CompactDirection.TheVariants.{Outgoing, Incoming}
+use Rattle.fault.specs.declared.Fault.TheVariants.{NodesFull}
 use Rattle.map_model.specs.Lists.{one, count, found, changed}
 use Rattle.map_model.specs.Lists as tests
-use Rattle.map_model.specs.Model.{Node, Arc, Model, named, between, linked, joined, both_linked, new_keys, with_tables, node_added_at, new_edge_added_at}
+use Rattle.map_model.specs.Model.{Model, named, joined, with_tables, node_added_at}
 use Rattle.map_layout.specs.declared.records.NodeRecord.{NodeRecord}
-use Rattle.map_layout.specs.declared.records.ArcRecord.{ArcRecord}
 use Rattle.map_layout.specs.declared.records.Neighbor.{Neighbor}
-use Rattle.map_layout.specs.Layout.{State, NodeItem, ArcItem, Among, numbered, Begins, of_unused, Idle, Names, Paired, Seated, Spare, Lists, Linked, Rep, partner, direction_at, source_of, target_of, arc_in, node_of, model}
-use Rattle.map_layout.specs.Steps.{with_nodes, lone, node_at, node_put, entered, entered_by, linked_at, new_place, place_taken, arc_put}
-use Rattle.map_layout.specs.Edits.{ends_number, ends_of, neighbor, both_linked_at, laid}
-use Rattle.map_layout.proofs.Mapping.{found_map, has_map}
-use Rattle.map_layout.proofs.Items.{value_found, value_of, put_new, put_full, value_none, Stands, value_some}
-use Rattle.map_layout.proofs.Pairs.{even_out, odd_in, pair_source, pair_target}
-use Rattle.map_layout.proofs.Holding.{idle_unowned}
+use Rattle.map_layout.specs.Layout.{State, NodeItem, Among, numbered, Idle, Names, Paired, Linked, Rep, partner, source_of, target_of, arc_in, node_of, model}
+use Rattle.map_layout.specs.Steps.{with_nodes, lone, node_at, entered, entered_by}
+use Rattle.map_layout.proofs.Items.{value_found, value_of, put_full, value_none, value_some}
 use Rattle.map_layout.proofs.Stepping.{Base}
-use Rattle.map_layout.proofs.Attaching.{Same}
-use Rattle.map_layout.proofs.Reusing.{base_of, Refiled, PlaceTaken, takes}
-use Rattle.map_layout.proofs.Entering.{Entered, enters, has_node, found_has, none_has, Joined, joins}
-use Rattle.map_layout.proofs.Pairing.{Added, rep_added, names_kept}
+use Rattle.map_layout.proofs.Reusing.{base_of}
+use Rattle.map_layout.proofs.Entering.{Entered, enters, has_node, found_has, none_has}
 
 -- ---- a node comes in
 paired_on : {N : Type 0} (O P : ℕ → ℕ → Type 0) (L M : List Position) (cs ds : List (Option (Neighbor N))) (i p : ℕ)

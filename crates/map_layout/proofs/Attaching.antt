@@ -1,26 +1,25 @@
 -- One more link at a node.
-use Rattle.std.proofs.Common.{◌≡◌, ℕ, suc, ◌+◌, ◌<◌, ◌≤◌, Bool, true, false, cond, not, ◌&&◌, eqb, ltb, ◌≢◌, ◌⊎◌, List, [], ◌∷◌, ◌++◌, map, reverse, length, get_or, set, Some, None, Option, sym, refl, ap, ◌∙◌, subst, inl, inr, ⊎_elim, arith}
+use Rattle.std.proofs.Common.{◌≡◌, ℕ, suc, ◌<◌, true, false, cond, not, ltb, ◌≢◌, ◌⊎◌, List, [], ◌∷◌, ◌++◌, length, set, Some, None, sym, refl, ap, ◌∙◌, subst, inl, inr, ⊎_elim, arith}
 use Rattle.std.proofs.lemmas.List.{length-set, get_or-set_other}
-use Rattle.std.proofs.lemmas.Bool.{cases_eq, both_ways, lt-ltb, and_from, not_from_false}
+use Rattle.std.proofs.lemmas.Bool.{cases_eq, lt-ltb, and_from, not_from_false}
 use Rattle.linked_list.specs.declared.position.Position.{Position}
-use Rattle.linked_list.specs.declared.position.Position.TheVariants.{Free}
 use Rattle.linked_list.specs.Places.{is_in, at}
-use Rattle.linked_list.specs.Chains.{has, first, last, Holds, entries_of, can_push, after_push}
+use Rattle.linked_list.specs.Chains.{has, last, Holds, entries_of, can_push, after_push}
 use Rattle.linked_list.proofs.Members.{has_head, has_tail}
-use Rattle.linked_list.proofs.Linking.{free_is, free_not_in, holds_read}
+use Rattle.linked_list.proofs.Linking.{free_is, free_not_in}
 use Rattle.linked_list.proofs.Pushing.{Pushed, push_granted, pushes}
 use Rattle.keys.specs.declared.node_index.NodeIndex.{NodeIndex}
-use Rattle.map_model.specs.Lists.{count, found, changed}
-use Rattle.map_model.specs.Model.{Link, Node, named, relinked}
+use Rattle.map_model.specs.Lists.{found, changed}
+use Rattle.map_model.specs.Model.{named, relinked}
 use Rattle.map_layout.specs.declared.records.NodeRecord.{NodeRecord}
 use Rattle.map_layout.specs.declared.records.Neighbor.{Neighbor}
-use Rattle.map_layout.specs.Layout.{State, NodeItem, Among, numbered, Idle, Lists, Linked, places_of, link_to, links_in, model}
+use Rattle.map_layout.specs.Layout.{State, NodeItem, numbered, Idle, Lists, Linked, places_of, link_to, model}
 use Rattle.map_layout.specs.Steps.{with_links, node_put, linked_to, else_some}
 use Rattle.map_layout.proofs.Items.{put_old}
 use Rattle.map_layout.proofs.Links.{links_push}
 use Rattle.map_layout.proofs.Places.{has_cons, last_cons}
 use Rattle.map_layout.proofs.Holding.{idle_unowned}
-use Rattle.map_layout.proofs.Stepping.{Base, Change, restated, number_is, x_among, begun, linked_of, of_linked, base_after, unused_after, linked_here, linked_other, here_linked, other_linked, shown_after}
+use Rattle.map_layout.proofs.Stepping.{Base, Change, restated, x_among, begun, linked_of, of_linked, base_after, unused_after, linked_here, linked_other, here_linked, other_linked, shown_after}
 
 -- what a step on the links of one node leaves as it was
 pub record Same {N E : Type 0} (st st' : State N E) : Type 0 where

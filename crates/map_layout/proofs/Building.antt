@@ -1,13 +1,12 @@
 -- A map just built.
-use Rattle.std.proofs.Common.{◌≡◌, ℕ, suc, ◌+◌, ◌*◌, ◌≤◌, Bool, true, false, ◌≢◌, ◌⊎◌, List, [], ◌∷◌, length, Some, None, Option, sym, refl, ap, ◌∙◌, subst, inl, inr, ⊎_elim, arith}
+use Rattle.std.proofs.Common.{◌≡◌, ℕ, suc, ◌*◌, ◌≤◌, List, [], length, None, Option, sym, ap, ◌∙◌, subst, arith}
 use Rattle.std.proofs.lemmas.Bool.{false≢true}
 use Rattle.linked_list.specs.declared.position.Position.{Position}
 use Rattle.linked_list.specs.Chains.{has, Holds, entries_of}
 use Rattle.linked_list.proofs.Linking.{holds_read, holds_none}
-use Rattle.map_model.specs.Model.{Model, built}
 use Rattle.map_model.proofs.Running.{sound_built}
 use Rattle.map_layout.specs.declared.records.Neighbor.{Neighbor}
-use Rattle.map_layout.specs.Layout.{State, NodeItem, ArcItem, Begins, of_unused, of_node, Held, Owns, Idle, Lists, Linked, Rep, model}
+use Rattle.map_layout.specs.Layout.{of_unused, of_node, Owns, Idle, Lists, Rep}
 use Rattle.map_layout.specs.Edits.{Good, empty}
 
 module _ (N E : Type 0) (cs : List (Option (Neighbor N))) (L : List Position) (n m : ℕ) where

@@ -1,5 +1,5 @@
 -- Maps are a set, where keys and weights are.
-use Rattle.std.proofs.Common.{◌≡◌, ℕ, Bool, true, false, List, refl, arith}
+use Rattle.std.proofs.Common.{◌≡◌, ℕ, Bool, true, false, refl, arith}
 use base.Stored.{Coded, coded_ℕ, coded_bool, coded×, coded_list, coded_via}
 use Rattle.map_model.specs.declared.CompactDirection.{CompactDirection}
 use Rattle.map_model.specs.declared.CompactDirection.TheVariants.{Outgoing, Incoming}

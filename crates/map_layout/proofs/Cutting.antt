@@ -1,16 +1,15 @@
 -- One link of a node that is linked goes.
-use Rattle.std.proofs.Common.{◌≡◌, ℕ, suc, ◌+◌, ◌<◌, ◌≤◌, Bool, true, false, cond, ◌&&◌, eqb, ◌≢◌, List, [], ◌∷◌, length, get_or, Some, None, Option, sym, refl, ap, ◌∙◌, subst, arith}
+use Rattle.std.proofs.Common.{◌≡◌, ℕ, suc, ◌≤◌, true, eqb, List, ◌∷◌, get_or, Some, None, Option, sym, refl, ap, ◌∙◌, subst, arith}
 use Rattle.std.specs.Option.{option_map}
 use Rattle.std.proofs.lemmas.Bool.{eq-eqb, and_from}
 use Rattle.linked_list.specs.Chains.{has, entries_of}
 use Rattle.keys.specs.declared.node_index.NodeIndex.{NodeIndex}
 use Rattle.map_model.specs.declared.CompactDirection.{CompactDirection}
 use Rattle.map_model.specs.declared.CompactDirection.TheVariants.{Outgoing, Incoming}
-use Rattle.map_model.specs.Lists.{count, found, taken, changed}
+use Rattle.map_model.specs.Lists.{count, found, changed}
 use Rattle.map_model.specs.Model.{same_direction, Link, named, links_to, links_at, relinked, unlinked}
-use Rattle.map_layout.specs.declared.records.NodeRecord.{NodeRecord}
 use Rattle.map_layout.specs.declared.records.Neighbor.{Neighbor}
-use Rattle.map_layout.specs.Layout.{State, NodeItem, Among, numbered, Begins, of_unused, of_node, Names, Lists, Linked, Rep, direction_at, link_to, places_of, model}
+use Rattle.map_layout.specs.Layout.{State, NodeItem, numbered, of_unused, of_node, Names, Lists, Linked, Rep, direction_at, link_to, places_of, model}
 use Rattle.map_layout.specs.Steps.{node_at, swapped_from, swapped_out_of, dropped_from, dropped_out_of}
 use Rattle.map_layout.specs.Edits.{oldest_of, oldest_at}
 use Rattle.map_layout.proofs.Members.{found_among}

@@ -1,21 +1,21 @@
 -- One link less at a node.
-use Rattle.std.proofs.Common.{◌≡◌, ℕ, suc, ◌+◌, ◌<◌, ◌≤◌, Bool, true, false, cond, ◌≢◌, ◌⊎◌, List, [], ◌∷◌, ◌++◌, map, reverse, length, get_or, set, Some, None, Option, sym, refl, ap, ◌∙◌, subst, inl, inr, ⊎_elim, arith}
+use Rattle.std.proofs.Common.{◌≡◌, ℕ, suc, ◌≤◌, Bool, true, cond, ◌≢◌, ◌⊎◌, List, [], ◌∷◌, reverse, length, get_or, Some, None, Option, sym, refl, ap, ◌∙◌, subst, inr, ⊎_elim, arith}
 use Rattle.std.specs.Option.{option_map}
 use Rattle.std.proofs.lemmas.Bool.{cases_eq, both_ways}
 use Rattle.linked_list.specs.declared.position.Position.{Position}
-use Rattle.linked_list.specs.Places.{is_in, prev_of, at}
-use Rattle.linked_list.specs.Chains.{has, first, last, swap_removed, without, Holds, entries_of, can_swap, after_swap, start_after_swap, can_remove, after_remove, start_after_remove}
-use Rattle.linked_list.specs.Laws.{OthersStay, StatusStays}
+use Rattle.linked_list.specs.Places.{prev_of, at}
+use Rattle.linked_list.specs.Chains.{has, last, swap_removed, without, Holds, entries_of, can_swap, after_swap, start_after_swap, can_remove, after_remove, start_after_remove}
+use Rattle.linked_list.specs.Laws.{StatusStays}
 use Rattle.linked_list.proofs.Members.{has_first}
 use Rattle.linked_list.proofs.Linking.{prev_is, Differ}
 use Rattle.linked_list.proofs.Removing.{Removed, removes, listed_can}
 use Rattle.linked_list.proofs.Swapping.{Swapped, swaps, listed_can_swap}
 use Rattle.keys.specs.declared.node_index.NodeIndex.{NodeIndex}
 use Rattle.map_model.specs.Lists.{count, found, taken, changed}
-use Rattle.map_model.specs.Model.{Link, Node, named, links_of, links_at, relinked}
+use Rattle.map_model.specs.Model.{Link, named, links_of, links_at, relinked}
 use Rattle.map_layout.specs.declared.records.NodeRecord.{NodeRecord}
 use Rattle.map_layout.specs.declared.records.Neighbor.{Neighbor}
-use Rattle.map_layout.specs.Layout.{State, NodeItem, Among, numbered, Idle, Lists, Linked, places_of, link_to, links_in, node_of, model}
+use Rattle.map_layout.specs.Layout.{State, NodeItem, numbered, Idle, Lists, Linked, places_of, link_to, links_in, node_of, model}
 use Rattle.map_layout.specs.Steps.{with_links, node_put, swapped_from, dropped_from, last_swapped}
 use Rattle.map_layout.proofs.Items.{put_old}
 use Rattle.map_layout.proofs.Mapping.{found_map}

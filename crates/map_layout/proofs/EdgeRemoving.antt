@@ -1,20 +1,17 @@
 -- An arc is removed.
-use Rattle.std.proofs.Common.{◌≡◌, ℕ, suc, ◌+◌, ◌-◌, ◌*◌, ◌/◌, ◌%◌, ◌^◌, ◌<◌, ◌≤◌, Bool, true, false, cond, ◌&&◌, eqb, ◌≢◌, ◌⊎◌, List, [], ◌∷◌, ◌++◌, map, length, get_or, Some, None, Option, sym, refl, ap, ◌∙◌, subst, inl, inr, ⊎_elim, arith}
+use Rattle.std.proofs.Common.{◌≡◌, ℕ, ◌+◌, ◌/◌, ◌%◌, ◌^◌, ◌≤◌, cond, eqb, ◌≢◌, List, map, get_or, Some, None, Option, sym, ap, ◌∙◌, subst, ⊎_elim, arith}
 use Rattle.std.specs.Option.{option_map}
-use Rattle.std.proofs.lemmas.Bool.{cases_eq, both_ways, eq-eqb, ne_eqb, eqb-true, cond-true, cond-false}
-use Rattle.linked_list.specs.Chains.{has, entries_of}
+use Rattle.std.proofs.lemmas.Bool.{cases_eq, eq-eqb, ne_eqb, eqb-true, cond-true, cond-false}
 use Rattle.keys.specs.declared.node_index.NodeIndex.{NodeIndex}
 use Rattle.keyed_table.specs.Listing.{without}
 use Rattle.map_model.specs.declared.CompactDirection.{CompactDirection}
 use Rattle.map_model.specs.declared.CompactDirection.TheVariants.{Outgoing, Incoming}
-use Rattle.map_model.specs.Lists.{one, count, found, taken, changed}
-use Rattle.map_model.specs.Model.{Link, Node, Arc, Model, named, between, links_of, links_to, links_at, relinked, unlinked, both_unlinked, weight_of, weight_at, with_tables, edge_removed_at}
-use Rattle.map_model.specs.Sound.{Sound, due}
+use Rattle.map_model.specs.Lists.{count, found, taken}
+use Rattle.map_model.specs.Model.{Node, named, between, links_of, links_to, links_at, relinked, unlinked, both_unlinked, weight_of, edge_removed_at}
 use Rattle.map_model.proofs.Searching.{found_passes, found_counts, none_counts}
 use Rattle.map_model.proofs.Linking.{count_unlinked}
-use Rattle.map_layout.specs.declared.records.Neighbor.{Neighbor}
-use Rattle.map_layout.specs.Layout.{State, NodeItem, ArcItem, Among, numbered, Names, Lists, Linked, Rep, direction_at, source_of, target_of, arc_in, node_of, model}
-use Rattle.map_layout.specs.Steps.{with_arcs, swapped_out_of, place_given, arc_at, arc_gone}
+use Rattle.map_layout.specs.Layout.{State, ArcItem, numbered, Names, Linked, Rep, source_of, target_of, arc_in, model}
+use Rattle.map_layout.specs.Steps.{with_arcs, swapped_out_of, arc_gone}
 use Rattle.map_layout.specs.Edits.{Good, ends_number, both_swapped_out, unlaid}
 use Rattle.map_layout.proofs.Members.{among_found, taken_none, changed_same}
 use Rattle.map_layout.proofs.Mapping.{count_map, found_map, map_taken}
@@ -22,9 +19,9 @@ use Rattle.map_layout.proofs.Items.{without_taken}
 use Rattle.map_layout.proofs.Pairs.{between_number, partner_even, pair_source, pair_target, even_out, odd_in}
 use Rattle.map_layout.proofs.Stepping.{Base}
 use Rattle.map_layout.proofs.Detaching.{Lost}
-use Rattle.map_layout.proofs.Reusing.{base_of, PlaceGiven, gives}
+use Rattle.map_layout.proofs.Reusing.{base_of, gives}
 use Rattle.map_layout.proofs.Laying.{base_arcs}
-use Rattle.map_layout.proofs.Cutting.{Filled, filled, swap_step, swap_step_shown}
+use Rattle.map_layout.proofs.Cutting.{filled, swap_step, swap_step_shown}
 use Rattle.map_layout.proofs.Unlaying.{LostBoth, lost_one, lost_two, ArcAt, gone_by}
 use Rattle.map_layout.proofs.Unlaying as un
 use Rattle.map_layout.proofs.Pairing.{Gone, rep_gone, names_kept}

@@ -1,5 +1,5 @@
 -- What each edit comes to, from what it did to the tables.
-use Rattle.std.proofs.Common.{◌≡◌, ℕ, ◌+◌, ◌<◌, ◌≤◌, Bool, true, false, cond, ◌||◌, eqb, ltb, leb, ◌≢◌, ◌⊎◌, List, [], ◌∷◌, ◌++◌, length, Some, None, Ok, Err, Option, Result, sym, refl, ap, ◌∙◌, subst, inl, inr, ⊎_elim, arith}
+use Rattle.std.proofs.Common.{◌≡◌, ℕ, ◌+◌, ◌<◌, ◌≤◌, Bool, true, false, cond, ◌||◌, ltb, leb, [], ◌∷◌, ◌++◌, length, Some, None, Ok, Err, Option, Result, sym, refl, ap, ◌∙◌, subst, ⊎_elim, arith}
 use Rattle.std.specs.Option.{option_map}
 use Rattle.std.proofs.lemmas.Bool.{cases_lt, lt-ltb, le-ltb, le-leb, lt-leb, cond-true, cond-false}
 use Rattle.keys.specs.declared.node_index.NodeIndex.{NodeIndex}
@@ -14,8 +14,8 @@ use Rattle.map_layout.specs.declared.records.ArcRecord.{ArcRecord}
 use Rattle.map_layout.specs.Layout.{State, ArcItem, Rep, numbered, model}
 use Rattle.map_layout.specs.Steps.{entered, arc_at, arc_gone}
 use Rattle.map_layout.specs.Edits.{Good, ends_number, laid, arc_weighed, refusal, laid_answer, laid_or_same, ArcLaid, ArcPut, unlaid, ArcRemoved}
-use Rattle.map_layout.proofs.Items.{value_none, Stands, value_some}
-use Rattle.map_layout.proofs.Adding.{many_nodes, many_arcs, NodeAdded, node_adds}
+use Rattle.map_layout.proofs.Items.{value_none, value_some}
+use Rattle.map_layout.proofs.Adding.{many_nodes, many_arcs, node_adds}
 use Rattle.map_layout.proofs.Laying.{laid_rep, laid_shown}
 use Rattle.map_layout.proofs.Weighing.{weighed_rep, weighed_shown}
 use Rattle.map_layout.proofs.EdgeRemoving.{arc_found, absent_good, absent_shown, removed_rep, removed_shown}

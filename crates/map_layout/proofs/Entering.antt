@@ -1,22 +1,21 @@
 -- A node comes in where it is new, and gets a link.
-use Rattle.std.proofs.Common.{◌≡◌, ℕ, suc, ◌+◌, ◌<◌, ◌≤◌, Bool, true, false, cond, ◌||◌, eqb, ◌≢◌, ◌⊎◌, List, [], ◌∷◌, ◌++◌, map, reverse, length, get_or, set, Some, None, Option, unwrap_or, sym, refl, ap, ◌∙◌, subst, inl, inr, ⊎_elim, arith}
+use Rattle.std.proofs.Common.{◌≡◌, ℕ, suc, ◌<◌, Bool, true, false, cond, ◌||◌, ◌≢◌, ◌⊎◌, List, [], ◌∷◌, ◌++◌, reverse, length, set, Some, None, Option, unwrap_or, sym, refl, ap, ◌∙◌, subst, inl, inr, ⊎_elim, arith}
 use Rattle.std.specs.Option.{option_map}
 use Rattle.std.proofs.lemmas.List.{map_push}
 use Rattle.std.proofs.lemmas.Bool.{cases_eq, both_ways, eq-eqb, ne_eqb, cond-true, cond-false}
-use Rattle.linked_list.specs.declared.position.Position.{Position}
-use Rattle.linked_list.specs.Chains.{has, last, Holds, entries_of, can_push, after_push}
+use Rattle.linked_list.specs.Chains.{has, last, entries_of, can_push, after_push}
 use Rattle.linked_list.proofs.Linking.{holds_read, holds_none}
 use Rattle.keys.specs.declared.node_index.NodeIndex.{NodeIndex}
-use Rattle.keyed_table.specs.Listing.{with_value, inserted}
+use Rattle.keyed_table.specs.Listing.{with_value}
 use Rattle.map_model.specs.Lists.{one, count, found, changed}
 use Rattle.map_model.specs.Lists as tests
-use Rattle.map_model.specs.Model.{Link, Node, named, relinked, joined, linked}
+use Rattle.map_model.specs.Model.{named, relinked, joined, linked}
 use Rattle.map_model.proofs.Searching.{count_push, none_counts, found_push_new}
 use Rattle.map_layout.specs.declared.records.NodeRecord.{NodeRecord}
 use Rattle.map_layout.specs.declared.records.Neighbor.{Neighbor}
-use Rattle.map_layout.specs.Layout.{State, NodeItem, Among, numbered, Begins, of_unused, of_node, Held, Owns, Idle, Lists, Linked, places_of, direction_at, link_to, links_in, node_of, model}
-use Rattle.map_layout.specs.Steps.{with_links, with_nodes, lone, node_at, node_put, entered, entered_by, linked_to, linked_at, else_some}
-use Rattle.map_layout.proofs.Members.{among_left, among_push, among_counts}
+use Rattle.map_layout.specs.Layout.{State, NodeItem, Among, numbered, of_unused, of_node, Idle, Lists, Linked, places_of, direction_at, link_to, links_in, node_of, model}
+use Rattle.map_layout.specs.Steps.{with_links, with_nodes, lone, node_at, entered, entered_by, linked_to, linked_at}
+use Rattle.map_layout.proofs.Members.{among_left, among_push}
 use Rattle.map_layout.proofs.Mapping.{has_map}
 use Rattle.map_layout.proofs.Items.{value_found, value_of, put_old, put_new}
 use Rattle.map_layout.proofs.Holding.{held_less}

@@ -1,10 +1,8 @@
 -- Lists of places in one container, of which one is changed.
-use Rattle.std.proofs.Common.{◌≡◌, ℕ, Bool, true, false, ◌≢◌, ◌⊎◌, List, [], ◌∷◌, length, Some, None, Option, sym, refl, ap, ◌∙◌, subst, inl, inr, ⊎_elim, arith}
+use Rattle.std.proofs.Common.{◌≡◌, ℕ, true, false, ◌≢◌, ◌⊎◌, List, [], Some, None, Option, sym, ap, ◌∙◌, subst, ⊎_elim, arith}
 use Rattle.std.proofs.lemmas.Bool.{cases_eq, both_ways}
 use Rattle.linked_list.specs.declared.position.Position.{Position}
-use Rattle.linked_list.specs.declared.position.Position.TheVariants.{Free, In}
-use Rattle.linked_list.specs.Places.{at}
-use Rattle.linked_list.specs.Chains.{has, first, Holds, Other, entries_of}
+use Rattle.linked_list.specs.Chains.{has, Holds, Other, entries_of}
 use Rattle.linked_list.specs.Laws.{OthersStay}
 use Rattle.linked_list.proofs.Members.{has_first}
 use Rattle.linked_list.proofs.Linking.{free_not_in, lists_apart, holds_read, holds_none, Differ, chain_differ}

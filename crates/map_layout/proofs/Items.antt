@@ -1,8 +1,8 @@
 -- The calls of a keyed table, as searches and changes by a number.
-use Rattle.std.proofs.Common.{◌≡◌, ℕ, zero, suc, ◌+◌, ◌<◌, ◌≤◌, Bool, true, false, cond, ◌||◌, eqb, ltb, List, [], ◌∷◌, ◌++◌, map, length, get_or, take, set, Some, None, Option, sym, refl, ap, ◌∙◌, subst, arith}
+use Rattle.std.proofs.Common.{◌≡◌, ℕ, suc, ◌<◌, ◌≤◌, true, false, cond, ◌||◌, eqb, ltb, List, [], ◌∷◌, ◌++◌, length, get_or, take, set, Some, None, Option, sym, refl, ap, ◌∙◌, arith}
 use lib.Dec.{leb-suc-suc, leb-zero}
 use Rattle.std.specs.Option.{option_map}
-use Rattle.std.proofs.lemmas.Bool.{true≢false, false≢true, cases_Bool, both_ways, cond-true, cond-false, lt-ltb, le-ltb}
+use Rattle.std.proofs.lemmas.Bool.{false≢true, cond-true, cond-false, lt-ltb, le-ltb}
 use Rattle.keyed_table.specs.declared.slots.Item.{Item}
 use Rattle.keyed_table.specs.Listing.{place, has, value_at, with_value, written, left, inserted, swapped_out, without}
 use Rattle.map_model.specs.Lists.{one, count, found, last, front, moved, taken, changed}

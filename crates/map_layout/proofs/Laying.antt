@@ -1,21 +1,17 @@
 -- A new arc is laid, with its links.
-use Rattle.std.proofs.Common.{◌≡◌, ℕ, suc, ◌+◌, ◌-◌, ◌*◌, ◌/◌, ◌%◌, ◌^◌, ◌<◌, ◌≤◌, Bool, true, false, cond, ◌||◌, eqb, ltb, leb, ◌≢◌, ◌⊎◌, List, [], ◌∷◌, ◌++◌, map, length, get_or, set, Some, None, Ok, Err, Option, Result, sym, refl, ap, ◌∙◌, subst, inl, inr, ⊎_elim, arith}
-use Rattle.std.proofs.lemmas.List.{length-set, map_push, length_push, get_or-set_same, get_or-set_other}
-use Rattle.std.proofs.lemmas.Bool.{cases_eq, cases_Bool, both_ways, eq-eqb, ne_eqb, or_left, or_right, or_parts, cond-true, cond-false, false≢true}
+use Rattle.std.proofs.Common.{◌≡◌, ℕ, suc, ◌+◌, ◌%◌, ◌<◌, ◌≤◌, Bool, true, false, cond, ◌||◌, eqb, ◌≢◌, ◌⊎◌, List, [], ◌∷◌, ◌++◌, map, length, get_or, Some, None, sym, refl, ap, ◌∙◌, subst, inl, inr, ⊎_elim, arith}
+use Rattle.std.proofs.lemmas.List.{map_push, length_push, get_or-set_same, get_or-set_other}
+use Rattle.std.proofs.lemmas.Bool.{cases_eq, cases_Bool, both_ways, eq-eqb, ne_eqb, cond-true, cond-false, false≢true}
 use Rattle.linked_list.specs.Chains.{has, entries_of}
 use Rattle.linked_list.proofs.Linking.{free_not_in}
 use Rattle.keys.specs.declared.node_index.NodeIndex.{NodeIndex}
-use Rattle.fault.specs.declared.Fault.{Fault}
-use Rattle.fault.specs.declared.Fault.TheVariants.{NodesFull, ArcsFull}
 use Rattle.map_model.specs.declared.CompactDirection.TheVariants.{Outgoing, Incoming}
 use Rattle.map_model.specs.Lists.{one, count, found, changed}
 use Rattle.map_model.specs.Lists as tests
-use Rattle.map_model.specs.Model.{Link, Node, Arc, Model, named, relinked, linked, joined, both_linked, new_keys, with_tables, new_edge_added_at}
+use Rattle.map_model.specs.Model.{Node, named, relinked, linked, joined, both_linked, new_keys, with_tables}
 use Rattle.map_model.proofs.Searching.{Keeps}
-use Rattle.map_layout.specs.declared.records.ArcRecord.{ArcRecord}
-use Rattle.map_layout.specs.declared.records.Neighbor.{Neighbor}
-use Rattle.map_layout.specs.Layout.{State, NodeItem, ArcItem, numbered, Begins, of_unused, Idle, Names, Spare, Lists, Linked, Rep, direction_at, link_to, target_of, arc_in, node_of, model}
-use Rattle.map_layout.specs.Steps.{with_arcs, linked_at, new_place, place_taken, arc_put}
+use Rattle.map_layout.specs.Layout.{State, ArcItem, numbered, of_unused, Idle, Names, Lists, Linked, Rep, target_of, arc_in, model}
+use Rattle.map_layout.specs.Steps.{with_arcs, linked_at, new_place, place_taken}
 use Rattle.map_layout.specs.Edits.{ends_number, ends_of, neighbor, both_linked_at, laid}
 use Rattle.map_layout.proofs.Members.{length_changed}
 use Rattle.map_layout.proofs.Items.{put_new}
@@ -23,9 +19,9 @@ use Rattle.map_layout.proofs.Pairs.{partner_even, even_out, odd_in, pair_source,
 use Rattle.map_layout.proofs.Holding.{idle_unowned}
 use Rattle.map_layout.proofs.Stepping.{Base}
 use Rattle.map_layout.proofs.Attaching.{Same}
-use Rattle.map_layout.proofs.Reusing.{Refiled, PlaceTaken, takes}
+use Rattle.map_layout.proofs.Reusing.{PlaceTaken, takes}
 use Rattle.map_layout.proofs.Entering.{has_node, none_has, Joined, joins}
-use Rattle.map_layout.proofs.Adding.{many_nodes, many_arcs}
+use Rattle.map_layout.proofs.Adding.{many_nodes}
 use Rattle.map_layout.proofs.Pairing.{Added, rep_added, names_kept}
 
 -- ---- searches

@@ -1,15 +1,15 @@
 -- The links at a list of places, after one change of the list.
-use Rattle.std.proofs.Common.{◌≡◌, ℕ, ◌+◌, ◌<◌, ◌≤◌, Bool, true, false, cond, ◌||◌, eqb, ◌≢◌, ◌⊎◌, List, [], ◌∷◌, ◌++◌, reverse, length, get_or, set, Some, None, Option, sym, refl, ap, ◌∙◌, subst, inl, inr, ⊎_elim, append_assoc, append-nil, arith}
+use Rattle.std.proofs.Common.{◌≡◌, ℕ, ◌+◌, ◌<◌, ◌≤◌, Bool, true, false, eqb, ◌≢◌, List, [], ◌∷◌, ◌++◌, reverse, length, get_or, set, Some, None, Option, sym, refl, ap, ◌∙◌, subst, ⊎_elim, append_assoc, append-nil, arith}
 use mathlib.Core.List.{reverse-cons, reverse-append}
 use Rattle.std.proofs.lemmas.List.{get_or-set_same, get_or-set_other}
-use Rattle.std.proofs.lemmas.Bool.{cases_eq, eqb-true, eq-eqb, ne_eqb, or_cases, or_parts, or_from, false≢true, both_ways, cond-true, cond-false}
-use Rattle.linked_list.specs.Chains.{has, first, last_from, last, spliced, without, replaced, swap_removed}
-use Rattle.linked_list.proofs.Members.{none_first, none_rest, none_cons, has_head, has_tail, has_append, spliced_here, spliced_later}
+use Rattle.std.proofs.lemmas.Bool.{cases_eq, eqb-true, eq-eqb, ne_eqb, or_cases, false≢true, cond-true, cond-false}
+use Rattle.linked_list.specs.Chains.{has, spliced, replaced, swap_removed}
+use Rattle.linked_list.proofs.Members.{none_first, none_rest, none_cons, has_head, has_tail, spliced_here, spliced_later}
 use Rattle.map_model.specs.Lists.{one, count, moved, taken}
 use Rattle.map_model.specs.Model.{Link}
 use Rattle.map_layout.specs.declared.records.Neighbor.{Neighbor}
 use Rattle.map_layout.specs.Layout.{link_to, link_at, links_in}
-use Rattle.map_layout.proofs.Members.{taken_append, taken_none, moved_push, count_append, count_reverse}
+use Rattle.map_layout.proofs.Members.{taken_append, moved_push, count_append, count_reverse}
 
 -- ---- a list is split at one of its entries
 pub record Split (l : List ℕ) (p : ℕ) : Type 0 where

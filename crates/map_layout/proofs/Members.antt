@@ -1,9 +1,8 @@
 -- What is among a list that is searched, changed or from which one is taken.
-use Rattle.std.proofs.Common.{◌≡◌, ℕ, ◌+◌, ◌-◌, ◌<◌, ◌≤◌, Bool, true, false, cond, ◌||◌, ◌⊎◌, List, [], ◌∷◌, ◌++◌, map, reverse, length, Some, None, Option, sym, refl, ap, ◌∙◌, subst, inl, inr, ⊎_elim, arith}
+use Rattle.std.proofs.Common.{◌≡◌, ℕ, ◌+◌, ◌≤◌, Bool, true, false, cond, ◌⊎◌, List, [], ◌∷◌, ◌++◌, reverse, length, Some, sym, refl, ap, ◌∙◌, inl, inr, ⊎_elim, arith}
 use mathlib.Core.List.{reverse-cons}
-use Rattle.std.proofs.lemmas.Bool.{both_ways, cases_Bool, cond-true, cond-false}
-use Rattle.map_model.specs.Lists.{one, count, has, found, last, front, moved, taken, changed}
-use Rattle.map_model.proofs.Searching.{Keeps, count_moved}
+use Rattle.std.proofs.lemmas.Bool.{both_ways, cases_Bool, cond-true}
+use Rattle.map_model.specs.Lists.{one, count, found, last, front, moved, taken, changed}
 use Rattle.map_layout.specs.Layout.{Among}
 
 module _ {X : Type 0} where

@@ -1,7 +1,7 @@
 -- A node is removed: its arcs go in the sequence of its links, and then the node itself.
-use Rattle.std.proofs.Common.{◌≡◌, ℕ, suc, ◌+◌, ◌-◌, ◌*◌, ◌/◌, ◌%◌, ◌^◌, ◌<◌, ◌≤◌, Bool, true, false, cond, ◌&&◌, eqb, ◌≢◌, ◌⊎◌, List, [], ◌∷◌, ◌++◌, map, reverse, length, get_or, Some, None, Option, sym, refl, ap, ◌∙◌, subst, inl, inr, ⊎_elim, arith}
+use Rattle.std.proofs.Common.{◌≡◌, ℕ, suc, ◌+◌, ◌-◌, ◌%◌, ◌≤◌, Bool, true, false, cond, eqb, ◌≢◌, List, [], ◌∷◌, map, reverse, get_or, Some, None, Option, sym, refl, ap, ◌∙◌, subst, inl, ⊎_elim, arith}
 use Rattle.std.specs.Option.{option_map}
-use Rattle.std.proofs.lemmas.Bool.{cases_eq, both_ways, eq-eqb, ne_eqb, eqb-true, and_from, cond-true, cond-false, false≢true}
+use Rattle.std.proofs.lemmas.Bool.{cases_eq, eq-eqb, ne_eqb, eqb-true, and_from, cond-true, cond-false, false≢true}
 use Rattle.linked_list.specs.Chains.{has, last, last_from, entries_of}
 use Rattle.keys.specs.declared.node_index.NodeIndex.{NodeIndex}
 use Rattle.keyed_table.specs.Listing.{without}
@@ -9,27 +9,27 @@ use Rattle.map_model.specs.declared.CompactDirection.{CompactDirection}
 use Rattle.map_model.specs.declared.CompactDirection.TheVariants.{Outgoing, Incoming}
 use Rattle.map_model.specs.Lists.{one, count, found, taken, changed}
 use Rattle.map_model.specs.Lists as tests
-use Rattle.map_model.specs.Model.{opposite, same_direction, Link, Node, Arc, Model, named, between, links_of, links_to, links_at, relinked, unlinked, all_unlinked, arc_of, all_taken, with_tables, node_removed_at}
-use Rattle.map_model.specs.Sound.{Sound, Fit, due}
+use Rattle.map_model.specs.Model.{same_direction, Link, Model, named, between, links_of, links_to, links_at, relinked, unlinked, all_unlinked, arc_of, all_taken, with_tables, node_removed_at}
+use Rattle.map_model.specs.Sound.{Fit}
 use Rattle.map_model.proofs.Searching.{count_taken, count_taken_other}
 use Rattle.map_layout.specs.declared.records.NodeRecord.{NodeRecord}
 use Rattle.map_layout.specs.declared.records.Neighbor.{Neighbor}
-use Rattle.map_layout.specs.Layout.{State, NodeItem, ArcItem, Among, numbered, Begins, of_unused, of_node, Idle, Names, Lists, Linked, Rep, partner, direction_at, link_to, links_in, places_of, arc_in, node_of, model}
-use Rattle.map_layout.specs.Steps.{with_nodes, with_arcs, node_at, swapped_out_of, dropped_out_of, place_given, arc_gone}
+use Rattle.map_layout.specs.Layout.{State, NodeItem, numbered, of_unused, of_node, Names, Lists, Linked, Rep, partner, direction_at, link_to, links_in, places_of, arc_in, node_of, model}
+use Rattle.map_layout.specs.Steps.{with_nodes, node_at, swapped_out_of, dropped_out_of, place_given, arc_gone}
 use Rattle.map_layout.specs.Edits.{Good, ends_number, oldest_of, oldest_at, neighbor_at, number_at, cut, Cut, node_gone}
 use Rattle.map_layout.proofs.Members.{among_found, found_among, among_taken, taken_among}
 use Rattle.map_layout.proofs.Mapping.{map_taken, found_map}
-use Rattle.map_layout.proofs.Items.{value_found, value_of, value_none, Stands, value_some, without_taken}
+use Rattle.map_layout.proofs.Items.{value_found, value_of, value_some, without_taken}
 use Rattle.map_layout.proofs.Pairs.{partner_even, partner_odd, even_out, odd_in}
-use Rattle.map_layout.proofs.Places.{Ended, ended}
+use Rattle.map_layout.proofs.Places.{ended}
 use Rattle.map_layout.proofs.Holding.{held_less}
-use Rattle.map_layout.proofs.Stepping.{Base, linked_of, of_linked}
+use Rattle.map_layout.proofs.Stepping.{Base, linked_of}
 use Rattle.map_layout.proofs.Detaching.{Lost, links_there}
-use Rattle.map_layout.proofs.Reusing.{base_of, Refiled, PlaceGiven, gives}
+use Rattle.map_layout.proofs.Reusing.{base_of, PlaceGiven, gives}
 use Rattle.map_layout.proofs.Adding.{Regrouped, rep_regrouped}
 use Rattle.map_layout.proofs.Laying.{base_arcs}
 use Rattle.map_layout.proofs.Pairing.{Gone, rep_gone, names_kept}
-use Rattle.map_layout.proofs.Cutting.{Filled, filled, swap_step, swap_step_shown, drop_step, drop_step_shown, oldest_link}
+use Rattle.map_layout.proofs.Cutting.{filled, swap_step, swap_step_shown, drop_step, drop_step_shown, oldest_link}
 use Rattle.map_layout.proofs.Unlaying.{LostBoth, turned, lost_one, lost_two, ArcAt, arc_out, arc_in_of, gone_by}
 use Rattle.map_layout.proofs.EdgeRemoving.{arc_count, arcs_without}
 use Rattle.map_layout.proofs.Dropping.{tail, due_once, without_first, others_same, cut_nodes, fit_cut, unlinked_cut, taken_arcs}

@@ -1,9 +1,9 @@
 -- The number of an arc says its two ends; the places of its two links are next to each other.
-use Rattle.std.proofs.Common.{◌≡◌, ℕ, ◌+◌, ◌-◌, ◌*◌, ◌/◌, ◌%◌, ◌^◌, ◌<◌, ◌≤◌, Bool, true, false, cond, ◌&&◌, eqb, ◌≢◌, ◌⊎◌, sym, refl, ap, ◌∙◌, subst, inl, inr, ⊎_elim, arith}
-use Rattle.std.proofs.lemmas.Bool.{cases_eq, eq-eqb, ne_eqb, eqb-true, and_from, and_left, and_right, and_parts, cases_Bool, both_ways, cond-true, cond-false}
+use Rattle.std.proofs.Common.{◌≡◌, ℕ, ◌+◌, ◌-◌, ◌/◌, ◌%◌, ◌^◌, ◌<◌, ◌&&◌, eqb, ◌≢◌, sym, ◌∙◌, ⊎_elim, arith}
+use Rattle.std.proofs.lemmas.Bool.{cases_eq, eq-eqb, ne_eqb, and_from, and_left, and_right, cond-true, cond-false}
 use Rattle.keys.specs.Numbers.{pair_number}
 use Rattle.map_model.specs.declared.CompactDirection.TheVariants.{Outgoing, Incoming}
-use Rattle.map_model.specs.Model.{opposite, between}
+use Rattle.map_model.specs.Model.{between}
 use Rattle.map_layout.specs.Layout.{partner, direction_at, ArcItem, arc_in, numbered}
 
 pub pair_test : (n i j : ℕ) → j < 2 ^ 32 → (eqb (n / 2 ^ 32) i && eqb (n % 2 ^ 32) j) ≡ eqb n (pair_number i j)

@@ -1,13 +1,11 @@
 -- Lists of places: what is in them, and what comes last, after one change.
-use Rattle.std.proofs.Common.{◌≡◌, ℕ, suc, ◌+◌, ◌<◌, ◌≤◌, Bool, true, false, cond, ◌||◌, eqb, ◌≢◌, ◌⊎◌, List, [], ◌∷◌, ◌++◌, length, Some, None, Option, sym, refl, ap, ◌∙◌, subst, inl, inr, ⊎_elim, append_assoc, append-nil, arith}
-use Rattle.std.proofs.lemmas.Bool.{cases_eq, cases_Bool, eqb-true, eq-eqb, ne_eqb, or_cases, or_parts, or_from, or_left, or_right, false≢true, both_ways, cond-true, cond-false}
-use Rattle.linked_list.specs.Places.{names}
-use Rattle.linked_list.specs.Chains.{has, first, rest, last_from, last, spliced, without, replaced, swap_removed}
-use Rattle.linked_list.proofs.Members.{none_first, none_rest, none_cons, has_head, has_tail, has_append, spliced_here, spliced_later}
-use Rattle.linked_list.proofs.Reading.{names_some, names_none}
+use Rattle.std.proofs.Common.{◌≡◌, ℕ, true, false, cond, eqb, ◌≢◌, ◌⊎◌, List, [], ◌∷◌, ◌++◌, Some, None, Option, sym, refl, ap, ◌∙◌, subst, inl, inr, ⊎_elim, append-nil, arith}
+use Rattle.std.proofs.lemmas.Bool.{cases_eq, cases_Bool, eqb-true, eq-eqb, ne_eqb, or_cases, or_left, or_right, false≢true, both_ways, cond-true, cond-false}
+use Rattle.linked_list.specs.Chains.{has, first, last_from, last, without, replaced, swap_removed}
+use Rattle.linked_list.proofs.Members.{has_head, has_tail, has_append}
 use Rattle.linked_list.proofs.Linking.{Differ}
 use Rattle.map_layout.specs.Steps.{else_some, last_swapped}
-use Rattle.map_layout.proofs.Links.{Split, split, spliced_split}
+use Rattle.map_layout.proofs.Links.{split, spliced_split}
 
 -- ---- members
 pub has_parts : (a b : List ℕ) (x : ℕ) → has (a ++ b) x ≡ true → (has a x ≡ true) ⊎ (has b x ≡ true)

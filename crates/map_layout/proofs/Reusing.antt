@@ -1,20 +1,17 @@
 -- A place of an arc is taken, or given back.
-use Rattle.std.proofs.Common.{◌≡◌, ℕ, suc, ◌+◌, ◌*◌, ◌%◌, ◌<◌, ◌≤◌, Bool, true, false, cond, not, ◌&&◌, eqb, ltb, ◌≢◌, ◌⊎◌, List, [], ◌∷◌, ◌++◌, map, reverse, length, get_or, set, Some, None, Option, unwrap_or, sym, refl, ap, ◌∙◌, subst, inl, inr, ⊎_elim, arith}
-use Rattle.std.proofs.lemmas.Bool.{cases_eq, cases_Bool, both_ways, lt-ltb, and_from, not_from_false, cond-true, cond-false}
+use Rattle.std.proofs.Common.{◌≡◌, ℕ, suc, ◌+◌, ◌*◌, ◌%◌, ◌<◌, ◌≤◌, Bool, true, false, cond, not, ltb, ◌≢◌, ◌⊎◌, List, [], ◌∷◌, reverse, length, Some, None, Option, unwrap_or, sym, refl, ap, ◌∙◌, subst, inl, inr, ⊎_elim, arith}
+use Rattle.std.proofs.lemmas.Bool.{cases_eq, lt-ltb, and_from, not_from_false}
 use Rattle.linked_list.specs.declared.position.Position.{Position}
 use Rattle.linked_list.specs.Places.{is_in, at}
-use Rattle.linked_list.specs.Chains.{has, first, rest, last, Holds, entries_of, can_push, after_push, can_pop, after_pop, start_after_pop, can_remove, after_remove, start_after_remove}
-use Rattle.linked_list.specs.Laws.{OthersStay, StatusStays}
+use Rattle.linked_list.specs.Chains.{has, last, Holds, entries_of, can_push, after_push, can_pop, after_pop, start_after_pop, can_remove, after_remove}
+use Rattle.linked_list.specs.Laws.{OthersStay}
 use Rattle.linked_list.proofs.Members.{has_head, has_tail, has_first}
-use Rattle.linked_list.proofs.Linking.{free_is, holds_read, holds_within}
 use Rattle.linked_list.proofs.Removing.{remove_length, remove_in, remove_free}
-use Rattle.linked_list.proofs.Popping.{front_start, front_list, front_other, pop_empty}
+use Rattle.linked_list.proofs.Popping.{front_list, front_other, pop_empty}
 use Rattle.linked_list.proofs.Pushing.{Pushed, push_granted, pushes}
-use Rattle.map_model.specs.Lists.{count}
-use Rattle.map_layout.specs.Layout.{State, NodeItem, Among, numbered, Begins, of_unused, of_node, Held, Owns, Idle, Spare, Lists, Linked, Rep, places_of, links_in, node_of, model}
-use Rattle.map_layout.specs.Steps.{with_unused, unused_place, new_place, taken_from, place_taken, place_given}
+use Rattle.map_layout.specs.Layout.{State, NodeItem, Among, of_unused, of_node, Idle, Spare, Lists, Linked, Rep, links_in, node_of, model}
+use Rattle.map_layout.specs.Steps.{with_unused, new_place, taken_from, place_taken, place_given}
 use Rattle.map_layout.proofs.Mapping.{map_same}
-use Rattle.map_layout.proofs.Places.{has_cons}
 use Rattle.map_layout.proofs.Holding.{held_after, other_entries, here_entries, owns_other, owned_other}
 use Rattle.map_layout.proofs.Stepping.{Base}
 use Rattle.map_layout.proofs.Attaching.{idle_stays}

@@ -1,22 +1,22 @@
 -- The list of one node is changed.
-use Rattle.std.proofs.Common.{◌≡◌, ℕ, suc, ◌+◌, ◌<◌, ◌≤◌, Bool, true, false, cond, eqb, ◌≢◌, ◌⊎◌, List, [], ◌∷◌, ◌++◌, map, reverse, length, get_or, set, Some, None, Option, sym, refl, ap, ◌∙◌, subst, inl, inr, ⊎_elim, arith}
-use Rattle.std.proofs.lemmas.Bool.{cases_eq, both_ways, eqb-true, eq-eqb, ne_eqb}
+use Rattle.std.proofs.Common.{◌≡◌, ℕ, suc, ◌≤◌, true, false, ◌≢◌, ◌⊎◌, List, reverse, length, get_or, Some, None, Option, sym, refl, ap, ◌∙◌, subst, ⊎_elim, arith}
+use Rattle.std.proofs.lemmas.Bool.{both_ways, eqb-true, eq-eqb, ne_eqb}
 use Rattle.linked_list.specs.declared.position.Position.{Position}
-use Rattle.linked_list.specs.Chains.{has, first, last, Holds, entries_of}
+use Rattle.linked_list.specs.Chains.{has, last, Holds, entries_of}
 use Rattle.linked_list.specs.Laws.{OthersStay}
-use Rattle.linked_list.proofs.Linking.{holds_read, Differ}
+use Rattle.linked_list.proofs.Linking.{holds_read}
 use Rattle.keyed_table.specs.Listing.{with_value}
 use Rattle.map_model.specs.Lists.{count, found, changed}
-use Rattle.map_model.specs.Model.{Link, Node, named, relinked}
+use Rattle.map_model.specs.Model.{Link, named, relinked}
 use Rattle.map_model.proofs.Searching.{count_changed, found_passes}
 use Rattle.map_layout.specs.declared.records.NodeRecord.{NodeRecord}
 use Rattle.map_layout.specs.declared.records.Neighbor.{Neighbor}
-use Rattle.map_layout.specs.Layout.{State, NodeItem, Among, numbered, Begins, of_unused, of_node, Held, Owns, Idle, Lists, Linked, places_of, links_in, node_of, model}
+use Rattle.map_layout.specs.Layout.{State, NodeItem, Among, numbered, of_unused, of_node, Held, Idle, Lists, Linked, places_of, links_in, node_of, model}
 use Rattle.map_layout.specs.Steps.{with_links}
 use Rattle.map_layout.proofs.Members.{among_found, found_among, among_changed, among_unchanged, among_change}
 use Rattle.map_layout.proofs.Mapping.{map_changed}
 use Rattle.map_layout.proofs.Links.{links_agree}
-use Rattle.map_layout.proofs.Holding.{other_lists, one_owner, idle_unowned, differ_list, other_entries, held_after, owns_other, owns_here, owned_other, owned_here}
+use Rattle.map_layout.proofs.Holding.{other_entries, held_after, owns_other, owns_here, owned_other, owned_here}
 
 -- what every single step keeps
 pub record Base {N E : Type 0} (st : State N E) : Type 0 where

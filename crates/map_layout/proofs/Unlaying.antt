@@ -1,34 +1,25 @@
 -- An arc goes, with its links.
-use Rattle.std.proofs.Common.{◌≡◌, ℕ, suc, ◌+◌, ◌-◌, ◌*◌, ◌/◌, ◌%◌, ◌^◌, ◌<◌, ◌≤◌, Bool, true, false, cond, ◌&&◌, eqb, ◌≢◌, ◌⊎◌, List, [], ◌∷◌, ◌++◌, map, length, get_or, Some, None, Option, sym, refl, ap, ◌∙◌, subst, inl, inr, ⊎_elim, arith}
-use Rattle.std.specs.Option.{option_map}
-use Rattle.std.proofs.lemmas.Bool.{cases_eq, cases_lt, both_ways, eq-eqb, ne_eqb, eqb-true, and_from, cond-true, cond-false}
-use Rattle.linked_list.specs.Chains.{has, entries_of}
+use Rattle.std.proofs.Common.{◌≡◌, ℕ, suc, ◌+◌, ◌-◌, ◌%◌, ◌^◌, ◌<◌, ◌≤◌, ◌≢◌, List, ◌∷◌, length, Option, sym, ap, ◌∙◌, subst, ⊎_elim, arith}
+use Rattle.std.proofs.lemmas.Bool.{cases_eq, cases_lt, eq-eqb}
 use Rattle.keys.specs.declared.node_index.NodeIndex.{NodeIndex}
 use Rattle.keys.specs.Numbers.{pair_number}
-use Rattle.keyed_table.specs.Listing.{without}
-use Rattle.map_model.specs.declared.CompactDirection.{CompactDirection}
-use Rattle.map_model.specs.declared.CompactDirection.TheVariants.{Outgoing, Incoming}
-use Rattle.map_model.specs.Lists.{one, count, found, taken, changed}
-use Rattle.map_model.specs.Model.{Link, Node, Arc, Model, named, between, links_to, links_at, relinked, unlinked}
-use Rattle.map_model.specs.Sound.{Sound, due}
-use Rattle.map_model.proofs.Searching.{count_taken, found_passes}
-use Rattle.map_model.proofs.Linking.{count_unlinked}
-use Rattle.map_layout.specs.declared.records.NodeRecord.{NodeRecord}
+use Rattle.map_model.specs.Lists.{count, taken}
+use Rattle.map_model.specs.Model.{between}
+use Rattle.map_model.specs.Sound.{Sound}
+use Rattle.map_model.proofs.Searching.{count_taken}
 use Rattle.map_layout.specs.declared.records.Neighbor.{Neighbor}
-use Rattle.map_layout.specs.Layout.{State, NodeItem, ArcItem, Among, numbered, Begins, of_unused, of_node, Idle, Names, Paired, Seated, Lists, Linked, Rep, partner, direction_at, link_to, source_of, target_of, places_of, arc_in, node_of, model}
-use Rattle.map_layout.specs.Steps.{with_arcs, node_at, swapped_from, swapped_out_of, dropped_from, dropped_out_of, place_given, arc_gone}
-use Rattle.map_layout.specs.Edits.{Good, ends_number}
-use Rattle.map_layout.proofs.Members.{among_found, found_among, among_taken, among_counts, length_taken}
+use Rattle.map_layout.specs.Layout.{State, ArcItem, Among, numbered, Idle, Names, Lists, Linked, Rep, partner, source_of, target_of, arc_in, model}
+use Rattle.map_layout.specs.Steps.{place_given, arc_gone}
+use Rattle.map_layout.specs.Edits.{ends_number}
+use Rattle.map_layout.proofs.Members.{among_taken, among_counts, length_taken}
 use Rattle.map_layout.proofs.Mapping.{count_map}
-use Rattle.map_layout.proofs.Items.{value_found, value_of, without_taken}
-use Rattle.map_layout.proofs.Pairs.{between_number, partner_even, partner_odd, even_out, odd_in}
+use Rattle.map_layout.proofs.Items.{without_taken}
+use Rattle.map_layout.proofs.Pairs.{between_number, partner_even, partner_odd}
 use Rattle.map_layout.proofs.Holding.{idle_unowned, one_owner}
-use Rattle.map_layout.proofs.Stepping.{Base, of_linked}
 use Rattle.map_layout.proofs.Attaching.{Same}
-use Rattle.map_layout.proofs.Detaching.{Lost, swaps_out, swap_shown}
-use Rattle.map_layout.proofs.Reusing.{base_of, Refiled, PlaceGiven, gives}
-use Rattle.map_layout.proofs.Laying.{base_arcs}
-use Rattle.map_layout.proofs.Pairing.{Gone, rep_gone}
+use Rattle.map_layout.proofs.Detaching.{Lost}
+use Rattle.map_layout.proofs.Reusing.{gives}
+use Rattle.map_layout.proofs.Pairing.{Gone}
 
 -- ---- two places go
 pub record LostBoth {N E : Type 0} (st st' : State N E) (a b : ℕ) : Type 0 where

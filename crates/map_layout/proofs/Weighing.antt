@@ -1,15 +1,11 @@
 -- The weight of an arc is replaced.
-use Rattle.std.proofs.Common.{◌≡◌, ℕ, ◌+◌, ◌*◌, ◌%◌, ◌≤◌, Bool, true, false, cond, ◌⊎◌, List, [], ◌∷◌, map, length, Some, None, Ok, Option, sym, refl, ap, ◌∙◌, subst, inl, inr, ⊎_elim, arith}
-use Rattle.std.specs.Option.{option_map}
-use Rattle.std.proofs.lemmas.Bool.{eqb-true}
-use Rattle.linked_list.specs.Chains.{entries_of}
+use Rattle.std.proofs.Common.{◌≡◌, ◌%◌, ◌≤◌, true, false, Some, Ok, sym, refl, ap, ◌∙◌, subst, ⊎_elim, arith}
 use Rattle.keys.specs.declared.node_index.NodeIndex.{NodeIndex}
 use Rattle.keyed_table.specs.Listing.{with_value}
 use Rattle.map_model.specs.Lists.{count, found, changed}
-use Rattle.map_model.specs.Model.{Arc, Model, between, weighed, weight_of, weight_at, with_tables, edge_put_at, edge_added_at}
-use Rattle.map_layout.specs.declared.records.ArcRecord.{ArcRecord}
+use Rattle.map_model.specs.Model.{between, weighed, weight_of, weight_at, edge_put_at, edge_added_at}
 use Rattle.map_layout.specs.Layout.{State, ArcItem, Among, numbered, Names, Seated, Linked, Rep, source_of, target_of, arc_in, model}
-use Rattle.map_layout.specs.Steps.{with_arcs, arc_put}
+use Rattle.map_layout.specs.Steps.{with_arcs}
 use Rattle.map_layout.specs.Edits.{Good, ends_number, ends_of, reweighed, arc_weighed}
 use Rattle.map_layout.proofs.Members.{found_among, among_changed, length_changed}
 use Rattle.map_layout.proofs.Mapping.{map_changed}

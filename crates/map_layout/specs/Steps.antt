@@ -1,5 +1,5 @@
 -- One step on the tables.
-use Rattle.std.specs.Prelude.{ℕ, ◌+◌, Bool, true, false, cond, List, [], ◌∷◌, Some, None, Option, slice_set}
+use Rattle.std.specs.Prelude.{ℕ, ◌+◌, Bool, true, false, cond, List, Some, None, Option, slice_set}
 use Rattle.std.specs.Option.{unwrap_or}
 use Rattle.keys.specs.declared.ends.Ends.{Ends}
 use Rattle.keys.specs.declared.node_index.NodeIndex.{NodeIndex}

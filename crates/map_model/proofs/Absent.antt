@@ -1,10 +1,10 @@
 -- Where nothing is found, nothing changes.
-use Rattle.std.proofs.Common.{◌≡◌, ℕ, ◌+◌, ◌≤◌, Bool, true, false, cond, ◌&&◌, ◌||◌, eqb, List, [], ◌∷◌, Some, None, Option, sym, refl, ap, ◌∙◌, subst, arith}
+use Rattle.std.proofs.Common.{◌≡◌, ℕ, ◌+◌, Bool, true, false, cond, eqb, List, [], ◌∷◌, Some, None, refl, ap, ◌∙◌, arith}
 use Rattle.map_model.specs.declared.CompactDirection.{CompactDirection}
 use Rattle.map_model.specs.declared.CompactDirection.TheVariants.{Outgoing, Incoming}
 use Rattle.map_model.specs.Lists.{one, count, found, moved, taken, changed}
-use Rattle.map_model.specs.Model.{Link, Node, Arc, Model, named, links_to, between, links_of, links_at, weight_of, weight_at, relinked, unlinked, both_unlinked, edge_removed_at}
-use Rattle.map_model.specs.Sound.{due, Sound}
+use Rattle.map_model.specs.Model.{Node, Model, named, links_to, between, links_of, links_at, relinked, unlinked, both_unlinked, edge_removed_at}
+use Rattle.map_model.specs.Sound.{Sound}
 use Rattle.map_model.proofs.Searching.{none_counts}
 
 module _ {X : Type 0} where

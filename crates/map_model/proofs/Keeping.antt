@@ -1,11 +1,11 @@
 -- Adding a node, adding an arc and removing one keep links and arcs in step.
-use Rattle.std.proofs.Common.{◌≡◌, ℕ, ◌+◌, ◌-◌, ◌<◌, ◌≤◌, Bool, true, false, cond, ◌&&◌, ◌||◌, eqb, List, [], ◌∷◌, ◌++◌, sym, refl, ap, ◌∙◌, subst, arith}
+use Rattle.std.proofs.Common.{◌≡◌, ℕ, ◌+◌, ◌-◌, ◌≤◌, true, false, cond, ◌&&◌, eqb, List, [], ◌∷◌, ◌++◌, sym, refl, ap, ◌∙◌, subst, arith}
 use Rattle.std.proofs.lemmas.Bool.Decides.{nat_tests}
 use Rattle.std.proofs.lemmas.Bool.{eqb-true, and_parts}
 use Rattle.map_model.specs.declared.CompactDirection.{CompactDirection}
 use Rattle.map_model.specs.declared.CompactDirection.TheVariants.{Outgoing, Incoming}
 use Rattle.map_model.specs.Lists.{one, count, taken, changed}
-use Rattle.map_model.specs.Model.{Link, Node, Arc, named, links_to, between, links_at, joined, linked, unlinked, both_linked, both_unlinked, weighed}
+use Rattle.map_model.specs.Model.{Node, Arc, named, links_to, between, links_at, joined, linked, unlinked, both_linked, both_unlinked, weighed}
 use Rattle.map_model.specs.Sound.{due, Fit}
 use Rattle.map_model.proofs.Searching.{count_changed, count_push}
 use Rattle.map_model.proofs.Linking.{hits, count_arc, links_joined, one_joined, count_linked, count_unlinked, one_linked, one_unlinked}

@@ -1,14 +1,14 @@
 -- What is listed is what is found; and all edges show what was granted last.
-use Rattle.std.proofs.Common.{◌≡◌, ℕ, ◌+◌, ◌≤◌, Bool, true, false, cond, ◌&&◌, ◌||◌, eqb, ◌⊎◌, ◌↔◌, List, [], ◌∷◌, ◌++◌, map, Some, None, Option, sym, refl, ap, ◌∙◌, subst, inl, inr, ⊎_elim, arith}
+use Rattle.std.proofs.Common.{◌≡◌, ℕ, ◌+◌, ◌≤◌, Bool, true, false, cond, ◌&&◌, ◌||◌, eqb, ◌⊎◌, List, [], ◌∷◌, ◌++◌, map, Some, None, sym, refl, ap, ◌∙◌, inl, inr, arith}
 use mathlib.Core.List.{Memᴰ}
-use Rattle.std.proofs.lemmas.Bool.{true≢false, false≢true, cases_Bool, eqb-true, eqb-false, eq-eqb, and_parts}
+use Rattle.std.proofs.lemmas.Bool.{false≢true, eqb-true, eq-eqb, and_parts}
 use Rattle.map_model.specs.declared.Edit.{Edit}
 use Rattle.map_model.specs.declared.Edit.TheVariants.{AddNode, AddEdge, RemoveNode, RemoveEdge}
 use Rattle.map_model.specs.Lists.{one, count, found, All}
-use Rattle.map_model.specs.Model.{Arc, Model, between, weight_of, weight_at, built, run, answers}
-use Rattle.map_model.specs.Shown.{triple, all_edges_shown}
+use Rattle.map_model.specs.Model.{Arc, Model, between, weight_of, weight_at, built, run}
+use Rattle.map_model.specs.Shown.{triple}
 use Rattle.map_model.specs.Sound.{ArcStored, Stored, Sound}
-use Rattle.map_model.specs.Statements.{granted_edits, Concerns, AddedLast, EndsDiffer, ShowsWhatWasGrantedLast, AllEdgesShowWhatWasGrantedLast}
+use Rattle.map_model.specs.Statements.{Concerns, AddedLast, EndsDiffer, AllEdgesShowWhatWasGrantedLast}
 use Rattle.map_model.proofs.Running.{either, last_of, concerns, given, run_given, sound_built, sound_run}
 use Rattle.map_model.proofs.Storing.{stored_built, stored_run}
 

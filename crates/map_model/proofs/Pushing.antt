@@ -1,5 +1,5 @@
 -- Taking out of a list whose last one is known: the last one is written over what goes.
-use Rattle.std.proofs.Common.{◌≡◌, Bool, true, false, cond, ◌||◌, List, [], ◌∷◌, ◌++◌, sym, refl, ap, ◌∙◌}
+use Rattle.std.proofs.Common.{◌≡◌, Bool, true, false, cond, ◌||◌, List, [], ◌∷◌, ◌++◌, refl, ap, ◌∙◌}
 use Rattle.map_model.specs.Lists.{has, last, front, moved, taken, changed}
 
 module _ {X : Type 0} where

@@ -1,10 +1,9 @@
 -- A run of a list and then of another, and the places, which no edit changes.
-use Rattle.std.proofs.Common.{◌≡◌, ℕ, ◌+◌, Bool, true, false, cond, ◌||◌, eqb, ltb, leb, List, [], ◌∷◌, ◌++◌, length, Some, None, Option, sym, refl, ap, ◌∙◌, arith}
+use Rattle.std.proofs.Common.{◌≡◌, ℕ, ◌+◌, Bool, true, false, cond, ◌||◌, ltb, leb, List, [], ◌∷◌, ◌++◌, length, Some, None, Option, refl, ap, ◌∙◌, arith}
 use Rattle.map_model.specs.declared.Edit.{Edit}
 use Rattle.map_model.specs.declared.Edit.TheVariants.{AddNode, AddEdge, RemoveNode, RemoveEdge}
-use Rattle.map_model.specs.declared.Answer.{Answer}
 use Rattle.map_model.specs.Lists.{has}
-use Rattle.map_model.specs.Model.{Model, named, weight_at, new_keys, node_added_at, new_edge_added_at, edge_put_at, edge_removed_at, node_removed_at, edited, run, answers}
+use Rattle.map_model.specs.Model.{Model, named, weight_at, new_keys, edge_put_at, edited, run, answers}
 
 -- the places of one map are those of another
 pub record SamePlaces {N E : Type 0} (m m' : Model N E) : Type 0 where

@@ -6,11 +6,10 @@ use Rattle.std.proofs.lemmas.Bool.{eqb-true, and_parts}
 use Rattle.map_model.specs.declared.CompactDirection.TheVariants.{Outgoing, Incoming}
 use Rattle.map_model.specs.declared.Edit.{Edit}
 use Rattle.map_model.specs.declared.Edit.TheVariants.{AddNode, AddEdge, RemoveNode, RemoveEdge}
-use Rattle.map_model.specs.declared.Answer.{Answer}
-use Rattle.map_model.specs.declared.Answer.TheVariants.{NodeAdded, EdgeAdded, NodeRemoved, EdgeRemoved}
+use Rattle.map_model.specs.declared.Answer.TheVariants.{NodeAdded, EdgeAdded}
 use Rattle.map_model.specs.Answers.{granted}
 use Rattle.map_model.specs.Lists.{count, has, found, taken, changed}
-use Rattle.map_model.specs.Model.{Node, Arc, Model, named, between, links_of, links_at, joined, all_unlinked, all_taken, both_linked, weighed, weight_of, weight_at, new_keys, with_tables, node_added_at, new_edge_added_at, edge_put_at, edge_added_at, edge_removed_at, node_removed_at, edited, built, run, answers}
+use Rattle.map_model.specs.Model.{Arc, Model, named, between, links_of, links_at, joined, all_unlinked, all_taken, both_linked, weighed, weight_of, weight_at, new_keys, with_tables, node_added_at, new_edge_added_at, edge_put_at, edge_added_at, edge_removed_at, node_removed_at, edited, built, run, answers}
 use Rattle.map_model.specs.Sound.{due, Sound}
 use Rattle.map_model.specs.Statements.{granted_edits}
 use Rattle.map_model.proofs.Searching.{applied, count_taken, none_found, found_taken_other, found_changed, found_changed_other, found_push, found_push_new, none_counts, has_counts}

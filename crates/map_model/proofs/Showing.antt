@@ -1,22 +1,21 @@
 -- What the questions and the cursors show, seen from the nodes and the arcs.
-use Rattle.std.proofs.Common.{◌≡◌, ℕ, ◌+◌, ◌≤◌, Bool, true, false, cond, ◌&&◌, ◌||◌, eqb, ◌⊎◌, ◌↔◌, List, [], ◌∷◌, map, Some, None, Option, sym, refl, ap, ◌∙◌, subst, inl, inr, ⊎_elim, arith}
+use Rattle.std.proofs.Common.{◌≡◌, ℕ, ◌+◌, ◌≤◌, Bool, true, false, cond, ◌&&◌, ◌||◌, eqb, ◌⊎◌, List, [], ◌∷◌, map, Some, None, Option, sym, refl, ap, ◌∙◌, subst, inl, inr, arith}
 use mathlib.Core.List.{Memᴰ}
 use Rattle.std.proofs.lemmas.Bool.Decides.{nat_tests}
-use Rattle.std.proofs.lemmas.Bool.{true≢false, false≢true, eqb-true, eqb-false, eq-eqb, ne_eqb, and_parts}
+use Rattle.std.proofs.lemmas.Bool.{false≢true, eqb-true, eqb-false, eq-eqb, ne_eqb, and_parts}
 use Rattle.map_model.specs.declared.CompactDirection.{CompactDirection}
 use Rattle.map_model.specs.declared.CompactDirection.TheVariants.{Outgoing, Incoming}
-use Rattle.map_model.specs.declared.Edit.{Edit}
 use Rattle.map_model.specs.Lists.{one, count, has, found, kept, present, All}
 use Rattle.map_model.specs.Model.{opposite, same_direction, Link, Node, Arc, Model, named, links_to, between, links_of, links_at, weight_of, weight_at, arc_of, built, run}
-use Rattle.map_model.specs.Shown.{contains_edge, nodes_shown, triple, all_edges_shown, shows, links_shown, neighbors_shown, with_ends, edge_of, edges_shown}
-use Rattle.map_model.specs.Sound.{due, Fit, Sound, LinkStored, NodeStored, ArcStored, Stored}
+use Rattle.map_model.specs.Shown.{nodes_shown, all_edges_shown, shows, with_ends, edge_of, edges_shown}
+use Rattle.map_model.specs.Sound.{Fit, Sound, LinkStored, NodeStored, Stored}
 use Rattle.map_model.specs.Statements.{EndsDiffer}
-use Rattle.map_model.specs.Laws.{near, far, KeysDiffer, QuestionsAgree, QuestionsAgreeAfterEveryRun, Kept, EveryRunKeepsTheMap}
+use Rattle.map_model.specs.Laws.{near, far, KeysDiffer, QuestionsAgree, QuestionsAgreeAfterEveryRun, EveryRunKeepsTheMap}
 use Rattle.map_model.proofs.Searching.{none_counts, found_passes}
 use Rattle.map_model.proofs.Running.{sound_built, sound_run}
 use Rattle.map_model.proofs.Storing.{stored_built, stored_run}
 use Rattle.map_model.proofs.Placing.{placed_built, placed_run}
-use Rattle.map_model.proofs.Listing.{listed_counts, listed_found, found_listed, ends_differ}
+use Rattle.map_model.proofs.Listing.{listed_counts, listed_found, found_listed}
 
 -- ---- lists
 module _ {X : Type 0} where

@@ -1,5 +1,5 @@
 -- Every edit stores each key with its own index.
-use Rattle.std.proofs.Common.{◌≡◌, ℕ, ◌+◌, Bool, true, false, cond, ◌||◌, eqb, ltb, leb, List, [], ◌∷◌, ◌++◌, length, Some, None, Ok, Err, Option, Result, refl}
+use Rattle.std.proofs.Common.{ℕ, ◌+◌, Bool, true, false, cond, ◌||◌, eqb, ltb, leb, List, [], ◌∷◌, ◌++◌, length, Some, None, Ok, Err, Option, Result, refl}
 use Rattle.fault.specs.declared.Fault.{Fault}
 use Rattle.fault.specs.declared.Fault.TheVariants.{NodesFull, ArcsFull}
 use Rattle.map_model.specs.declared.CompactDirection.{CompactDirection}
@@ -7,7 +7,7 @@ use Rattle.map_model.specs.declared.CompactDirection.TheVariants.{Outgoing, Inco
 use Rattle.map_model.specs.declared.Edit.{Edit}
 use Rattle.map_model.specs.declared.Edit.TheVariants.{AddNode, AddEdge, RemoveNode, RemoveEdge}
 use Rattle.map_model.specs.Lists.{has, last, front, moved, taken, changed, All}
-use Rattle.map_model.specs.Model.{opposite, Link, Node, Arc, Model, named, links_to, between, links_at, weight_at, joined, relinked, linked, both_linked, unlinked, both_unlinked, all_unlinked, weighed, arc_of, all_taken, with_tables, new_keys, node_added, new_edge_added_at, edge_put_at, edge_removed, node_removed, edited, built, run}
+use Rattle.map_model.specs.Model.{opposite, Link, Node, Arc, Model, named, links_to, between, links_at, weight_at, joined, linked, both_linked, unlinked, both_unlinked, all_unlinked, weighed, arc_of, all_taken, with_tables, new_keys, node_added, new_edge_added_at, edge_put_at, node_removed, edited, built, run}
 use Rattle.map_model.specs.Sound.{LinkStored, NodeStored, ArcStored, Stored}
 
 -- ---- what holds of each one

@@ -1,5 +1,5 @@
 -- What an answer says: the number of a refusal, or none, and its values.
-use Rattle.std.specs.Prelude.{ℕ, Bool, true, false, Some, None, Ok, Err, Option, Result}
+use Rattle.std.specs.Prelude.{ℕ, Bool, true, false, Some, None, Ok, Err, Option}
 use Rattle.fault.specs.declared.Fault.{Fault}
 use Rattle.fault.specs.Faults.{number_of, place_of}
 use Rattle.map_model.specs.declared.Answer.{Answer}

@@ -1,5 +1,5 @@
 -- What a map's questions and cursors have to do with its nodes and arcs, and what every run of edits keeps.
-use Rattle.std.specs.Prelude.{◌≡◌, ℕ, Bool, true, ◌↔◌, List, [], ◌∷◌, map, ◌≢◌}
+use Rattle.std.specs.Prelude.{◌≡◌, ℕ, true, ◌↔◌, List, [], ◌∷◌, map, ◌≢◌}
 use mathlib.Core.List.{Memᴰ}
 use Rattle.map_model.specs.declared.CompactDirection.{CompactDirection}
 use Rattle.map_model.specs.declared.CompactDirection.TheVariants.{Outgoing, Incoming}

@@ -1,9 +1,9 @@
 -- What the questions and the cursors of a map show.
-use Rattle.std.specs.Prelude.{ℕ, Bool, true, false, cond, ◌||◌, List, [], ◌∷◌, map, length, Some, None, Option, ◌==◌}
+use Rattle.std.specs.Prelude.{ℕ, Bool, ◌||◌, List, map, length, Some, None, Option, ◌==◌}
 use Rattle.map_model.specs.declared.CompactDirection.{CompactDirection}
 use Rattle.map_model.specs.declared.CompactDirection.TheVariants.{Outgoing, Incoming}
 use Rattle.map_model.specs.Lists.{has, kept, present}
-use Rattle.map_model.specs.Model.{same_direction, Link, Node, Arc, Model, between, links_at, weight_at}
+use Rattle.map_model.specs.Model.{same_direction, Link, Arc, Model, between, links_at, weight_at}
 
 abbrev pub node_count : {N E : Type 0} → Model N E → ℕ
 node_count m = length m.nodes

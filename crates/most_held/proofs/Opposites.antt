@@ -1,14 +1,13 @@
 -- A map that has no arc with an opposite has no opposite arcs.
-use Rattle.std.proofs.Common.{◌≡◌, ℕ, ◌≤◌, Bool, true, false, cond, not, ◌&&◌, ◌||◌, eqb, List, [], ◌∷◌, map, length, Some, None, Option, sym, refl, ap, ◌∙◌, subst, arith}
+use Rattle.std.proofs.Common.{◌≡◌, ℕ, ◌≤◌, Bool, true, false, cond, not, ◌&&◌, eqb, List, [], ◌∷◌, map, length, Some, None, Option, sym, refl, ap, ◌∙◌, subst, arith}
 use lib.ListN.{length-map}
 use Rattle.std.proofs.lemmas.Bool.Decides.{nat_tests}
 use Rattle.std.proofs.lemmas.Bool.{eqb-true}
 use Rattle.network.specs.declared.arc.Arc.{Arc}
-use Rattle.network.specs.Counting.{one, count}
-use Rattle.network.specs.Network.{Link, loop, loops, opposite, from_to, IsArcOf, NoLoops, NoOppositeArcs, touched}
+use Rattle.network.specs.Counting.{count}
+use Rattle.network.specs.Network.{Link, loop, loops, opposite, from_to, NoOppositeArcs, touched}
 use Rattle.network.specs.Places.{held_count}
 use Rattle.network.specs.Sources.{links}
-use Rattle.map_model.specs.declared.Edit.{Edit}
 use Rattle.map_model.specs.Lists as lists
 use Rattle.map_model.specs.Model as model
 use Rattle.map_model.specs.Model.{Model, between, built, run}
@@ -21,7 +20,7 @@ use Rattle.greedy_order.specs.Part6MostHeld.{most_by_half, most_by_nodes, NoneHo
 use Rattle.greedy_order.proofs.Promised.{the_order_is_greedy}
 use Rattle.replay.specs.Runs.{network_of}
 use Rattle.most_held.specs.declared.MostHeld.{MostHeld}
-use Rattle.most_held.specs.Bounds.{opposed, opposites, bound_by_nodes, Bounded, bounds, AtMost, NoMoreAreHeld}
+use Rattle.most_held.specs.Bounds.{opposites, bound_by_nodes, Bounded, bounds, AtMost, NoMoreAreHeld}
 
 -- an arc that a list shows from x to y is stored from x to y
 shown_is_stored : {N E : Type 0} (ix : N → ℕ) (l : List (model.Arc N E)) → lists.All (ArcStored ix) l → (x y : ℕ)

@@ -1,8 +1,8 @@
 -- The most arcs of a map that an order could have held.
-use Rattle.std.specs.Prelude.{◌≡◌, ℕ, ◌+◌, ◌≤◌, Bool, cond, not, ◌&&◌, List, length, Some, None, Option, ◌==◌}
+use Rattle.std.specs.Prelude.{◌≡◌, ℕ, ◌≤◌, Bool, cond, not, ◌&&◌, List, length, Some, None, Option, ◌==◌}
 use Rattle.network.specs.declared.arc.Arc.{Arc}
 use Rattle.network.specs.Counting.{count}
-use Rattle.network.specs.Network.{Link, loop, loops, touched}
+use Rattle.network.specs.Network.{loop, loops, touched}
 use Rattle.network.specs.Places.{held_count}
 use Rattle.map_model.specs.declared.Edit.{Edit}
 use Rattle.map_model.specs.Model.{Model, built, run}

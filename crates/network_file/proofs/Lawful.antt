@@ -1,14 +1,14 @@
 -- The laws of the check: the files that it grants are the layouts of allowed contents.
-use Rattle.std.proofs.Common.{◌≡◌, ℕ, zero, suc, ◌+◌, ◌*◌, ◌^◌, ◌<◌, ◌≤◌, eqb, ltb, leb, List, [], ◌∷◌, ◌++◌, length, get_or, take, drop, Ok, sym, refl, ap, ◌∙◌, subst, arith, length-append}
-use Rattle.std.specs.List.{ContainsAt as Has, flat_map, AllByRecursion as All}
+use Rattle.std.proofs.Common.{◌≡◌, ℕ, zero, suc, ◌+◌, ◌*◌, ◌^◌, ◌<◌, List, [], ◌∷◌, ◌++◌, length, take, drop, Ok, sym, refl, ap, ◌∙◌, subst, arith, length-append}
+use Rattle.std.specs.List.{flat_map, AllByRecursion as All}
 use Rattle.std.proofs.ByRecursion.{All-append}
 use Rattle.std.proofs.lemmas.List.{append-nil, take_at, drop_at, drop_all}
 use Rattle.std.proofs.lemmas.Bool.{lt-ltb, le-leb, eq-eqb}
-use Rattle.network_file.specs.Checks.{size_checked, table_checked, nodes_differ, ends_listed, checked}
+use Rattle.network_file.specs.Checks.{size_checked, table_checked, checked}
 use Rattle.network_file.specs.Fields.{field_bytes, field_at, fields_from}
 use Rattle.network_file.specs.Laws.{Allowed, Bytes, Laws}
 use Rattle.network_file.specs.Layout.{Contents, arc_fields, fields_of, laid_out}
-use Rattle.network_file.specs.Reading.{node_count, arc_count, arcs_begin, arc_from, arcs_from, nodes_of, arcs_of, contents_of}
+use Rattle.network_file.specs.Reading.{node_count, arc_count, arcs_begin, arcs_from, nodes_of, arcs_of, contents_of}
 use Rattle.network_file.specs.declared.arc.FileArc.{FileArc}
 use Rattle.network_file.proofs.Granted.{Table, granted, size_facts, table_facts, length_fields, length_arcs, length_nodes_of, length_arcs_of}
 use Rattle.network_file.proofs.Layouts.{field_small, laid_out_again, fields_append, arc_fields_read, fields_laid, length_laid, length_arc_fields}

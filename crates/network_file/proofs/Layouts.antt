@@ -1,12 +1,12 @@
 -- Fields laid out and read again.
-use Rattle.std.proofs.Common.{◌≡◌, ℕ, zero, suc, ◌+◌, ◌-◌, ◌*◌, ◌/◌, ◌%◌, ◌^◌, ◌<◌, ◌≤◌, List, [], ◌∷◌, ◌++◌, length, get_or, take, drop, sym, refl, ap, ◌∙◌, append_assoc, add-zero, arith, length-append}
+use Rattle.std.proofs.Common.{◌≡◌, ℕ, zero, suc, ◌+◌, ◌-◌, ◌*◌, ◌/◌, ◌%◌, ◌^◌, ◌<◌, ◌≤◌, List, [], ◌∷◌, ◌++◌, length, get_or, drop, sym, refl, ap, ◌∙◌, append_assoc, arith, length-append}
 use native.Mathlib.Nat.{div-div-eq-div-mul, div-add-mod, mod-mod}
 use Rattle.std.specs.List.{flat_map, AllByRecursion as All}
-use Rattle.std.proofs.lemmas.List.{drop_more, drop-drop, take_at, drop_at, get_or-append_right, append-nil}
+use Rattle.std.proofs.lemmas.List.{drop_more, get_or-append_right}
 use Rattle.network_file.specs.Fields.{field_bytes, byte_at, field_at, fields_from}
 use Rattle.network_file.specs.Laws.{Bytes}
 use Rattle.network_file.specs.Layout.{arc_fields}
-use Rattle.network_file.specs.Reading.{arc_from, arcs_from}
+use Rattle.network_file.specs.Reading.{arcs_from}
 use Rattle.network_file.specs.declared.arc.FileArc.{FileArc}
 
 pub byte_small : (b : List ℕ) (i : ℕ) → byte_at b i < 256

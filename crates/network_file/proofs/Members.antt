@@ -1,14 +1,12 @@
 -- The checks of the records, as facts on lists: nodes that differ, and ends that are listed.
-use Rattle.std.proofs.Common.{◌≡◌, ℕ, suc, ◌+◌, ◌<◌, ◌≤◌, Bool, true, false, not, eqb, ◌⊎◌, List, [], ◌∷◌, ◌++◌, length, get_or, Ok, Err, Decides, sym, refl, ap, ◌∙◌, subst, inl, inr, append_assoc, arith, length-append}
+use Rattle.std.proofs.Common.{◌≡◌, ℕ, ◌+◌, ◌<◌, false, eqb, List, [], ◌∷◌, ◌++◌, length, get_or, Ok, Decides, sym, refl, ◌∙◌, subst, inl, inr, append_assoc, arith, length-append}
 use Rattle.std.specs.List.{ContainsAt as Has, AllByRecursion as All}
 use Rattle.std.proofs.lemmas.List.{append-nil, get_or_append_left, get_or_at, get_or_default, length_push}
 use Rattle.std.proofs.lemmas.Bool.{cases_Bool, cases_lt, not-true, both_ways}
 use Rattle.std.proofs.lemmas.Bool.Decides.{Decides-by_or, Decides-eqb}
-use Rattle.fault.specs.declared.Fault.TheVariants.{NodeRepeated, EndUnlisted}
-use Rattle.network_file.specs.Checks.{expected, then, has, nodes_differ, ends_listed}
+use Rattle.network_file.specs.Checks.{has, nodes_differ, ends_listed}
 use Rattle.network_file.specs.declared.arc.FileArc.{FileArc}
 use Rattle.network_file.proofs.Granted.{then_granted, holds}
-use Rattle.network_file.proofs.Steps.{then_ok}
 
 pub has_tells : (xs : List ℕ) (x : ℕ) → Decides (has xs x) (Has xs x)
 has_tells xs x = Decides-by_or (λ y. eqb y x) (λ y. y ≡ x) (λ l. has l x) (λ y. Decides-eqb y x) refl (λ _ _. refl) xs

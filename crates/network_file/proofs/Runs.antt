@@ -1,13 +1,11 @@
 -- Records one after another, and the loops that go through them.
-use Rattle.std.proofs.Common.{◌≡◌, ℕ, zero, suc, ◌+◌, ◌-◌, ◌*◌, ◌<◌, ◌≤◌, Bool, true, false, cond, not, ◌||◌, eqb, List, [], ◌∷◌, ◌++◌, Ok, Err, Result, sym, refl, ap, ◌∙◌, add-zero, add-one, arith}
-use native.Mathlib.Nat.{sub-zero}
+use Rattle.std.proofs.Common.{◌≡◌, ℕ, zero, suc, ◌+◌, ◌-◌, ◌*◌, ◌<◌, ◌≤◌, true, false, not, ◌||◌, eqb, List, [], ◌∷◌, ◌++◌, Ok, Err, Result, sym, ap, ◌∙◌, add-zero, arith}
 use Rattle.std.proofs.lemmas.Bool.{eq-eqb, ne_eqb}
 use Rattle.fault.specs.declared.Fault.{Fault}
 use Rattle.fault.specs.declared.Fault.TheVariants.{NodeRepeated, EndUnlisted}
 use Rattle.network_file.specs.Checks.{expected, then, has, nodes_differ, ends_listed}
 use Rattle.network_file.specs.Fields.{field_at, fields_from}
 use Rattle.network_file.specs.Reading.{arc_from, arcs_from, arcs_begin, node_count, arc_count, nodes_of, arcs_of}
-use Rattle.network_file.specs.declared.arc.FileArc.{FileArc}
 use Rattle.network_file.proofs.Steps.{then_err, then_ok}
 
 module _ (b : List ℕ) (base k count : ℕ) (more : k < count) where

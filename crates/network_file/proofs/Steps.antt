@@ -1,8 +1,8 @@
 -- The checks of a file one by one, and what each way out of them gives.
-use Rattle.std.proofs.Common.{◌≡◌, ℕ, ◌+◌, ◌*◌, ◌<◌, ◌≤◌, Bool, true, false, cond, eqb, leb, List, [], length, Ok, Err, Result, sym, refl, ap, ◌∙◌, arith}
+use Rattle.std.proofs.Common.{◌≡◌, ℕ, ◌+◌, ◌*◌, eqb, leb, List, [], length, Ok, Err, Result, sym, ap, ◌∙◌, arith}
 use Rattle.std.proofs.lemmas.Bool.Decides.{nat_tests}
 use Rattle.fault.specs.declared.Fault.{Fault}
-use Rattle.fault.specs.declared.Fault.TheVariants.{FileTooLarge, FileLength, FileField}
+use Rattle.fault.specs.declared.Fault.TheVariants.{FileLength, FileField}
 use Rattle.network_file.specs.Fields.{field_at, field_read}
 use Rattle.network_file.specs.Checks.{expected, then, size_checked, table_checked, nodes_differ, ends_listed, checked}
 use Rattle.network_file.specs.Reading.{arcs_begin, nodes_of, arcs_of, contents_of}

@@ -1,7 +1,6 @@
 -- One edit more of a list.
 use Rattle.std.proofs.Common.{◌≡◌, ℕ, ◌+◌, ◌<◌, ◌≤◌, List, [], ◌∷◌, ◌++◌, length, get_or, take, drop, set, Some, sym, refl, ap, ◌∙◌, append_assoc, append-nil, arith}
-use Rattle.std.proofs.lemmas.List.{drop_more, drop-set-lt, take_more_set, take_all, drop_all, drop-drop, length-set, length-drop, get_or-drop}
-use Rattle.map_model.specs.declared.Edit.{Edit}
+use Rattle.std.proofs.lemmas.List.{drop_more, drop-set-lt, take_more_set, take_all, drop_all, drop-drop, length-set, get_or-drop}
 use Rattle.map_model.specs.declared.Answer.{Answer}
 use Rattle.map_model.specs.Model.{Model, edited, run, answers}
 use Rattle.replay.specs.declared.step.Step.{Step}

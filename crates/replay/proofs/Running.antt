@@ -3,10 +3,9 @@ use Rattle.std.proofs.Common.{◌≡◌, ℕ, Bool, true, false, List, Ok, Err, 
 use Rattle.fault.specs.declared.Fault.{Fault}
 use Rattle.fault.specs.declared.Fault.TheVariants.{TablesUnfit}
 use Rattle.graphmap.specs.Capacity.{capacity_answer}
-use Rattle.map_model.specs.declared.Edit.{Edit}
 use Rattle.map_model.specs.Model.{Model, built, run, answers}
 use Rattle.map_model.specs.Shown.{all_edges_shown}
-use Rattle.map_model.specs.Statements.{granted_edits, ShowsWhatWasGrantedLast, AllEdgesShowWhatWasGrantedLast}
+use Rattle.map_model.specs.Statements.{granted_edits, ShowsWhatWasGrantedLast}
 use Rattle.map_model.proofs.Listing.{all_edges_show}
 use Rattle.greedy_order.proofs.Promised.{the_order_keeps_the_promises}
 use Rattle.feedback_arc_set.specs.declared.ordering.Ordering.{Ordering}

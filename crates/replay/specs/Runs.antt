@@ -1,7 +1,6 @@
 -- A run: a map just built, a list of edits made on it, and the order of what it then shows. What is promised of every run.
 use Rattle.std.specs.Prelude.{◌≡◌, ℕ, List, Result}
 use Rattle.fault.specs.declared.Fault.{Fault}
-use Rattle.map_model.specs.declared.Edit.{Edit}
 use Rattle.map_model.specs.Model.{Model, built, run, answers}
 use Rattle.map_model.specs.Shown.{all_edges_shown}
 use Rattle.map_model.specs.Statements.{granted_edits, ShowsWhatWasGrantedLast, AllEdgesShowWhatWasGrantedLast}

@@ -1,5 +1,5 @@
 -- Edits with their answers.
-use Rattle.std.specs.Prelude.{List, [], ◌∷◌, map, Some, None, Option}
+use Rattle.std.specs.Prelude.{List, [], ◌∷◌, map, Some}
 use Rattle.map_model.specs.declared.Edit.{Edit}
 use Rattle.map_model.specs.declared.Answer.{Answer}
 use Rattle.replay.specs.declared.step.Step.{Step}

@@ -1,4 +1,4 @@
-use Rattle.std.proofs.Common.{◌≡◌, ◌+◌, ◌^◌, ◌<◌, ◌≤◌, length}
+use Rattle.std.proofs.Common.{◌≡◌, ◌+◌, length}
 use Rattle.std.specs.Int.Digits.{digits_of}
 use Rattle.decimal.specs.Digits.{digits}
 use Rattle.decimal.proofs.digit_count.Given as goal

@@ -1,6 +1,5 @@
-use Rattle.std.proofs.Common.{◌≡◌, sym, refl, ap, ◌∙◌, arith, rules}
-use Rattle.std.proofs.lemmas.Bool.{le-leb, lt-leb}
-use Rattle.decimal.specs.Digits.{digits}
+use Rattle.std.proofs.Common.{arith, rules}
+use Rattle.std.proofs.lemmas.Bool.{lt-leb}
 use Rattle.decimal.proofs.Numerals.{only_numeral}
 use Rattle.decimal.proofs.write_decimal.Goals as goal
 

@@ -1,4 +1,4 @@
-use Rattle.std.proofs.Common.{◌≡◌, sym, refl, ap, ◌∙◌, arith}
+use Rattle.std.proofs.Common.{◌∙◌, arith}
 use Rattle.fault.proofs.Lines.{line_length, line_put}
 use Rattle.fault.proofs.put_refusal.Goals as goal
 

@@ -1,4 +1,4 @@
-use Rattle.std.proofs.Common.{◌≡◌, ◌-◌, true, leb, length, take, replicate, sym, refl, ap, ◌∙◌, arith}
+use Rattle.std.proofs.Common.{◌≡◌, ◌-◌, true, take, replicate, ap, ◌∙◌, arith}
 use Rattle.decimal.proofs.Outputs.{take_put}
 use Rattle.decimal.specs.Outputs.{put_at, fits_at}
 use Rattle.std.proofs.lemmas.Bool.{le-leb}

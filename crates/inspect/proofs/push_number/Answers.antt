@@ -1,6 +1,5 @@
-use Rattle.std.proofs.Common.{◌≡◌, ◌-◌, ◌≤◌, ◌++◌, length, take, replicate, vec_items, sym, ap, ◌∙◌, arith}
+use Rattle.std.proofs.Common.{◌≡◌, ◌-◌, ◌≤◌, ◌++◌, length, take, replicate, vec_items, ap, ◌∙◌, arith}
 use Rattle.decimal.specs.Digits.{digits}
-use Rattle.decimal.specs.Outputs.{put_at}
 use Rattle.decimal.proofs.Outputs.{ten_suffice, take_put}
 use Rattle.decimal.proofs.Writing.{at_most_ten}
 use Rattle.inspect.proofs.Pushes.{pushed_made}

@@ -1,4 +1,4 @@
-use Rattle.std.proofs.Common.{◌≡◌, ◌-◌, true, ◌++◌, length, take, replicate, Ok, vec_items, sym, ap, ◌∙◌, arith}
+use Rattle.std.proofs.Common.{◌≡◌, ◌-◌, true, ◌++◌, length, take, replicate, Ok, vec_items, ap, ◌∙◌, arith}
 use Rattle.std.proofs.lemmas.Bool.{le-leb}
 use Rattle.decimal.specs.Outputs.{fits_at}
 use Rattle.decimal.proofs.Outputs.{take_put}

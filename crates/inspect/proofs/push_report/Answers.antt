@@ -1,5 +1,4 @@
-use Rattle.std.proofs.Common.{◌≡◌, is_ok, Ok, Err, vec_items, sym, ap, ◌∙◌}
-use Rattle.network_file.specs.Checks.{checked}
+use Rattle.std.proofs.Common.{is_ok, Ok, Err, vec_items, sym, ap}
 use Rattle.network_file.specs.Reading.{contents_of}
 use Rattle.inspect.proofs.Pushes.{report_whole}
 use Rattle.inspect.proofs.push_report.Goals as goal

@@ -1,4 +1,4 @@
-use Rattle.std.proofs.Common.{◌≡◌, map, length, get_or, None, sym, refl, ap, ◌∙◌, arith}
+use Rattle.std.proofs.Common.{None, sym, arith}
 use Rattle.std.proofs.lemmas.List.{get_or-map, get_or_past, length-map}
 use Rattle.graphmap.specs.Places.{neighbors}
 use Rattle.graphmap.proofs.places.neighbor_in.Goals as goal

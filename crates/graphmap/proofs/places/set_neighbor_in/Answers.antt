@@ -1,4 +1,4 @@
-use Rattle.std.proofs.Common.{◌≡◌, map, length, get_or, set, Some, sym, refl, ap, ◌∙◌, arith}
+use Rattle.std.proofs.Common.{Some, sym, refl, arith}
 use lib.Seq.{map-set, map-set_same}
 use Rattle.std.proofs.lemmas.List.{set_past, length-map}
 use Rattle.graphmap.specs.Places.{neighbors}

@@ -1,6 +1,6 @@
-use Rattle.std.proofs.Common.{◌≡◌, suc, ◌-◌, ◌<◌, length, get_or, sym, refl, ap, ◌∙◌, arith}
+use Rattle.std.proofs.Common.{◌-◌, get_or, sym, ap, ◌∙◌, arith}
 use Rattle.std.proofs.lemmas.List.{length-map}
-use Rattle.keyed_table.specs.Chains.{items, nexts, holds_number, bucket}
+use Rattle.keyed_table.specs.Chains.{nexts, bucket}
 use Rattle.keyed_table.proofs.Mending.{seek_none, seek_more, seek_empty, falling_le}
 use Rattle.keyed_table.proofs.chains.find.Goals as goal
 

@@ -1,4 +1,4 @@
-use Rattle.std.proofs.Common.{◌≡◌, ◌^◌, ◌<◌, length, get_or, None}
+use Rattle.std.proofs.Common.{◌^◌, ◌<◌, length, get_or, None}
 use Rattle.keyed_table.specs.Chains.{items, homes, bucket, holds_number, Chains}
 use Rattle.keyed_table.proofs.Last.{Sought}
 use Rattle.keyed_table.proofs.chains.find.Given as goal

@@ -1,4 +1,4 @@
-use Rattle.std.proofs.Common.{◌-◌, ◌<◌, get_or, arith}
+use Rattle.std.proofs.Common.{◌-◌, get_or, arith}
 use Rattle.keyed_table.specs.Chains.{nexts}
 use Rattle.keyed_table.proofs.Last.{walk_end}
 use Rattle.keyed_table.proofs.Mending.{gap_none, gap_more, falling_le}

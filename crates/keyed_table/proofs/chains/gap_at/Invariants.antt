@@ -1,4 +1,4 @@
-use Rattle.std.proofs.Common.{◌≡◌, ◌^◌, ◌<◌, length}
+use Rattle.std.proofs.Common.{◌^◌, ◌<◌, length}
 use Rattle.keyed_table.specs.Chains.{items, homes, Chains}
 use Rattle.keyed_table.proofs.Last.{Walk}
 use Rattle.keyed_table.proofs.chains.gap_at.Given as goal

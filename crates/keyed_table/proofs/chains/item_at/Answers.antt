@@ -1,4 +1,4 @@
-use Rattle.std.proofs.Common.{◌≡◌, map, length, get_or, None, sym, refl, ap, ◌∙◌, arith}
+use Rattle.std.proofs.Common.{None, sym, arith}
 use Rattle.std.proofs.lemmas.List.{get_or-map, get_or_past, length-map}
 use Rattle.keyed_table.specs.Chains.{items}
 use Rattle.keyed_table.proofs.chains.item_at.Goals as goal

@@ -1,7 +1,7 @@
-use Rattle.std.proofs.Common.{◌≡◌, map, length, get_or, set, sym, refl, ap, ◌∙◌, arith}
+use Rattle.std.proofs.Common.{sym, refl, arith}
 use lib.Seq.{map-set, map-set_same}
 use Rattle.std.proofs.lemmas.List.{set_past, length-map}
-use Rattle.keyed_table.specs.Chains.{items, heads, nexts}
+use Rattle.keyed_table.specs.Chains.{items}
 use Rattle.keyed_table.proofs.chains.set_item.Goals as goal
 
 pub returns-then-i-slots : goal.returns-then-i-slots

@@ -1,6 +1,6 @@
-use Rattle.std.proofs.Common.{◌≡◌, ◌+◌, ◌<◌, ◌≤◌, length, get_or, set, Some, None, sym, refl, ap, ◌∙◌, arith}
+use Rattle.std.proofs.Common.{◌≡◌, ◌+◌, length, set, None, sym, refl, ap, ◌∙◌, arith}
 use Rattle.std.proofs.lemmas.List.{length-map, set-get_or}
-use Rattle.keyed_table.specs.Chains.{items, heads, nexts, bucket, heads_to, nexts_to}
+use Rattle.keyed_table.specs.Chains.{items, bucket, heads_to, nexts_to}
 use Rattle.keyed_table.proofs.Mending.{link_out, bucket_lt}
 use Rattle.keyed_table.proofs.chains.unlink.Goals as goal
 

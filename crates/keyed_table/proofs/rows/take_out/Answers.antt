@@ -1,4 +1,4 @@
-use Rattle.std.proofs.Common.{◌≡◌, ℕ, ◌+◌, ◌<◌, length, get_or, set, Some, None, sym, refl, ap, ◌∙◌, arith}
+use Rattle.std.proofs.Common.{get_or, set, Some, None, sym, ap, ◌∙◌, arith}
 use Rattle.keyed_table.specs.Chains.{items}
 use Rattle.keyed_table.proofs.Mending.{out_low, out_end, last_there, mid_range, end_range, end_free}
 use Rattle.keyed_table.proofs.rows.take_out.Goals as goal

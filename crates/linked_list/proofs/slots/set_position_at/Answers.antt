@@ -1,4 +1,4 @@
-use Rattle.std.proofs.Common.{◌≡◌, map, length, get_or, set, sym, refl, ap, ◌∙◌, arith}
+use Rattle.std.proofs.Common.{map, set, sym, refl, ap, ◌∙◌, arith}
 use lib.Seq.{map-set, map-set_same}
 use Rattle.std.proofs.lemmas.List.{set_past, length-map}
 use Rattle.linked_list.proofs.slots.set_position_at.Goals as goal

@@ -1,4 +1,4 @@
-use Rattle.std.proofs.Common.{arith, rules}
+use Rattle.std.proofs.Common.{arith}
 use Rattle.std.proofs.lemmas.Bool.Decides.{nat_tests}
 use Rattle.network_file.specs.Checks.{size_checked}
 use Rattle.network_file.proofs.checks.check_size.Goals as goal

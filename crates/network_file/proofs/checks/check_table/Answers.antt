@@ -1,4 +1,4 @@
-use Rattle.std.proofs.Common.{◌≡◌, sym, refl, ◌∙◌}
+use Rattle.std.proofs.Common.{sym, refl, ◌∙◌}
 use Rattle.std.proofs.lemmas.Result.{err_from_is_err_and}
 use Rattle.network_file.specs.Fields.{field_at}
 use Rattle.network_file.proofs.Steps.{stopped, read_is, fails_at_first, fails_at_nodes, fails_at_second, fails_at_arcs, ends_in_last}

@@ -1,4 +1,4 @@
-use Rattle.std.proofs.Common.{get_or, sym, arith}
+use Rattle.std.proofs.Common.{arith}
 use Rattle.std.proofs.lemmas.List.{get_or_past}
 use Rattle.network_file.specs.Fields.{byte_at}
 use Rattle.network_file.proofs.fields.byte_at.Goals as goal

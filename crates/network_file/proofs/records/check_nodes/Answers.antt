@@ -1,4 +1,4 @@
-use Rattle.std.proofs.Common.{◌≡◌, sym, ap, ◌∙◌, arith}
+use Rattle.std.proofs.Common.{sym, ap, ◌∙◌}
 use Rattle.network_file.specs.Checks.{has}
 use Rattle.network_file.specs.Fields.{fields_from}
 use Rattle.network_file.proofs.Runs.{nodes_start, repeated_here, repeated_later}

@@ -1,4 +1,4 @@
-use Rattle.std.proofs.Common.{◌≡◌, sym, ◌∙◌, arith}
+use Rattle.std.proofs.Common.{sym, ◌∙◌}
 use Rattle.network_file.proofs.Runs.{listed_here, listed_later}
 use Rattle.network_file.proofs.records.listed.Goals as goal
 

@@ -1,7 +1,7 @@
 use Rattle.std.proofs.Common.{◌≡◌, length, drop, replicate, sym, ap, ◌∙◌, arith}
 use Rattle.std.proofs.lemmas.List.{length-replicate}
 use Rattle.keyed_table.specs.Chains.{blank_slot}
-use Rattle.keyed_table.specs.Tables.{listing, places}
+use Rattle.keyed_table.specs.Tables.{places}
 use Rattle.network.specs.Sources.{links}
 use Rattle.feedback_arc_set.specs.Orders.{node_places, entry_places, order_places}
 use Rattle.feedback_arc_set.proofs.Reading.{intact}

@@ -1,6 +1,6 @@
-use Rattle.std.proofs.Common.{◌≡◌, sym, refl, ap, ◌∙◌, subst}
+use Rattle.std.proofs.Common.{ap, ◌∙◌}
 use Rattle.map_layout.specs.Layout.{model}
-use Rattle.map_layout.proofs.Editing.{Edited, edge_answers, edge_added_to, places_edge_added}
+use Rattle.map_layout.proofs.Editing.{edge_answers, edge_added_to, places_edge_added}
 use Rattle.map_model.specs.Model.{edge_added_at}
 use Rattle.graphmap.specs.States.{state}
 use Rattle.graphmap.proofs.Holding.{kept, shows, fits}

@@ -1,4 +1,4 @@
-use Rattle.std.proofs.Common.{◌≡◌, sym, refl, ap, ◌∙◌, subst}
+use Rattle.std.proofs.Common.{sym, ap, ◌∙◌, subst}
 use Rattle.map_layout.specs.Layout.{model}
 use Rattle.map_layout.proofs.Editing.{Edited, node_added_to, places_node_added}
 use Rattle.map_model.specs.Model.{node_added_at}

@@ -1,4 +1,4 @@
-use Rattle.std.proofs.Common.{◌≡◌, sym, refl, ap, ◌∙◌, subst, arith}
+use Rattle.std.proofs.Common.{sym, ap, subst, arith}
 use Rattle.map_layout.specs.Layout.{State}
 use Rattle.map_layout.specs.Edits.{Good}
 use Rattle.graphmap.proofs.Blanking.{emptied_good}

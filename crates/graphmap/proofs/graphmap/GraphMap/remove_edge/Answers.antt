@@ -1,6 +1,6 @@
-use Rattle.std.proofs.Common.{◌≡◌, sym, refl, ap, ◌∙◌, subst}
+use Rattle.std.proofs.Common.{refl, ap, ◌∙◌}
 use Rattle.map_layout.specs.Layout.{model}
-use Rattle.map_layout.proofs.Editing.{Edited, removal_answers, edge_removed_to}
+use Rattle.map_layout.proofs.Editing.{removal_answers, edge_removed_to}
 use Rattle.map_model.specs.Model.{edge_removed_at}
 use Rattle.graphmap.specs.States.{state}
 use Rattle.graphmap.proofs.Holding.{kept, shows}

@@ -1,6 +1,6 @@
-use Rattle.std.proofs.Common.{◌≡◌, sym, refl, ap, ◌∙◌, subst}
+use Rattle.std.proofs.Common.{ap, ◌∙◌}
 use Rattle.map_layout.specs.Layout.{model}
-use Rattle.map_layout.proofs.Editing.{Edited, node_removed_to, places_node_removed}
+use Rattle.map_layout.proofs.Editing.{node_removed_to, places_node_removed}
 use Rattle.map_model.specs.Model.{node_removed_at}
 use Rattle.graphmap.specs.States.{state}
 use Rattle.graphmap.proofs.Holding.{kept, shows}

@@ -1,11 +1,10 @@
-use Rattle.std.proofs.Common.{◌≡◌, ◌≤◌, true, cond, length, sym, refl, ap, ◌∙◌, subst, arith}
+use Rattle.std.proofs.Common.{length, sym, ap, ◌∙◌, subst, arith}
 use Rattle.keyed_table.specs.Chains.{room_of}
 use Rattle.std.proofs.lemmas.Bool.{both_ways, cond-true}
 use Rattle.map_layout.specs.Layout.{State, model}
 use Rattle.map_layout.specs.Edits.{Good}
 use Rattle.map_model.specs.Model.{built}
 use Rattle.graphmap.specs.Capacity.{places_fit, capacity_answer}
-use Rattle.graphmap.specs.States.{state, emptied}
 use Rattle.graphmap.proofs.Blanking.{emptied_good, fits, room_is}
 use Rattle.graphmap.proofs.graphmap.GraphMap.with_capacity.Goals as goal
 

@@ -1,4 +1,4 @@
-use Rattle.std.proofs.Common.{◌≡◌, ℕ, Some, Ok, sym, refl, ap, ◌∙◌, arith}
+use Rattle.std.proofs.Common.{◌≡◌, ℕ, Some, Ok, ap, ◌∙◌, arith}
 use Rattle.keyed_table.specs.Chains.{room_of}
 use Rattle.map_layout.specs.Edits.{arc_weighed, reweighed}
 use Rattle.graphmap.specs.States.{state}

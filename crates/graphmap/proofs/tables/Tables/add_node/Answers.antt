@@ -1,4 +1,4 @@
-use Rattle.std.proofs.Common.{◌≡◌, sym, refl, ap, ◌∙◌}
+use Rattle.std.proofs.Common.{sym, ap, ◌∙◌}
 use Rattle.keyed_table.specs.Chains.{room_of}
 use Rattle.map_layout.proofs.Adding.{answer_there, answer_room, answer_full}
 use Rattle.map_layout.proofs.Calling.{put_ok, put_err, entered_there, entered_new}

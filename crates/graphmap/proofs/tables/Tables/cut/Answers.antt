@@ -1,7 +1,6 @@
-use Rattle.std.proofs.Common.{◌≡◌, ◌<◌, length, sym, refl, ap, ◌∙◌, subst}
+use Rattle.std.proofs.Common.{◌<◌, length, sym, refl, ap, subst}
 use Rattle.keyed_table.specs.Chains.{room_of}
 use Rattle.std.proofs.lemmas.Bool.{true≢false}
-use Rattle.map_layout.specs.Edits.{cut}
 use Rattle.graphmap.specs.States.{state}
 use Rattle.graphmap.proofs.Composing.{cuts_arc, cut_shorter}
 use Rattle.graphmap.proofs.tables.Tables.cut.Goals as goal

@@ -1,7 +1,7 @@
-use Rattle.std.proofs.Common.{◌≡◌, sym, ap}
+use Rattle.std.proofs.Common.{sym, ap}
 use Rattle.keyed_table.specs.Chains.{room_of}
 use Rattle.graphmap.specs.States.{state}
-use Rattle.graphmap.proofs.Composing.{neighbors_kept, drops_node, drops_none}
+use Rattle.graphmap.proofs.Composing.{neighbors_kept, drops_node}
 use Rattle.graphmap.proofs.tables.Tables.drop_link.Goals as goal
 
 pub returns : goal.returns

@@ -2,7 +2,7 @@ use Rattle.std.proofs.Common.{◌≡◌, ℕ, ◌≤◌, length, sym, ap, ◌∙
 use Rattle.std.specs.Option.{option_map}
 use Rattle.std.proofs.lemmas.Option.{slice_get_past}
 use Rattle.keyed_table.specs.Tables.{listing}
-use Rattle.map_layout.specs.Layout.{node_of, arc_in}
+use Rattle.map_layout.specs.Layout.{arc_in}
 use Rattle.map_model.specs.Shown.{triple}
 use Rattle.graphmap.specs.States.{state}
 use Rattle.graphmap.proofs.Reading.{nth_map_twice}

@@ -1,4 +1,4 @@
-use Rattle.std.proofs.Common.{◌≡◌, true, false, sym, refl, ap, ◌∙◌, arith}
+use Rattle.std.proofs.Common.{true, false, sym, ◌∙◌, arith}
 use Rattle.map_layout.proofs.Calling.{is_new}
 use Rattle.graphmap.specs.States.{state}
 use Rattle.graphmap.proofs.tables.Tables.is_new.Goals as goal

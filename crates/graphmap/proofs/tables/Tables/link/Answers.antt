@@ -1,4 +1,4 @@
-use Rattle.std.proofs.Common.{◌≡◌, unwrap_or, sym, refl, ap, ◌∙◌}
+use Rattle.std.proofs.Common.{unwrap_or, ap, ◌∙◌}
 use Rattle.keyed_table.specs.Chains.{room_of}
 use Rattle.map_layout.specs.Steps.{lone, node_at}
 use Rattle.graphmap.specs.States.{state}

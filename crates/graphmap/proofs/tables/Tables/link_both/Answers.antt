@@ -1,4 +1,4 @@
-use Rattle.std.proofs.Common.{◌≡◌, sym, refl, ap, ◌∙◌}
+use Rattle.std.proofs.Common.{sym, ◌∙◌}
 use Rattle.graphmap.specs.States.{state}
 use Rattle.graphmap.proofs.Composing.{both_of_loop, both_of_two}
 use Rattle.graphmap.proofs.tables.Tables.link_both.Goals as goal

@@ -1,4 +1,3 @@
-use Rattle.std.proofs.Common.{◌≡◌, ap}
 use Rattle.graphmap.specs.Places.{neighbors, positions_of}
 use Rattle.graphmap.proofs.tables.Tables.new.Goals as goal
 

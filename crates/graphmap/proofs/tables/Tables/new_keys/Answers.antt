@@ -1,4 +1,4 @@
-use Rattle.std.proofs.Common.{◌≡◌, sym, refl, ap, ◌∙◌, arith}
+use Rattle.std.proofs.Common.{sym, ◌∙◌, arith}
 use Rattle.map_layout.proofs.Calling.{loop_keys, two_keys}
 use Rattle.graphmap.specs.States.{state}
 use Rattle.graphmap.proofs.tables.Tables.new_keys.Goals as goal

@@ -1,8 +1,7 @@
-use Rattle.std.proofs.Common.{◌≡◌, Bool, true, false, not, sym, refl, ap, ◌∙◌, subst}
+use Rattle.std.proofs.Common.{◌≡◌, Bool, sym, ap, ◌∙◌, subst}
 use Rattle.keyed_table.specs.Chains.{room_of}
-use Rattle.std.proofs.lemmas.Bool.{not-true, not-false}
 use Rattle.map_layout.specs.Layout.{Rep, model}
-use Rattle.map_layout.specs.Edits.{Good, Cut, node_gone}
+use Rattle.map_layout.specs.Edits.{Good, node_gone}
 use Rattle.map_layout.proofs.Calling.{has_key}
 use Rattle.map_layout.proofs.NodeRemoving.{cut_none, cut_more, gone_rep, all_cut, removed_there, removed_absent}
 use Rattle.map_model.specs.Model.{Model}

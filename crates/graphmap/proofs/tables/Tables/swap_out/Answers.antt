@@ -1,4 +1,4 @@
-use Rattle.std.proofs.Common.{◌≡◌, sym, refl, ap}
+use Rattle.std.proofs.Common.{sym, refl, ap}
 use Rattle.keyed_table.specs.Chains.{room_of}
 use Rattle.graphmap.specs.States.{state}
 use Rattle.graphmap.proofs.Composing.{swaps_node}

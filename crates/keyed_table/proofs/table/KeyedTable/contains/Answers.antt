@@ -1,4 +1,3 @@
-use Rattle.std.proofs.Common.{◌≡◌}
 use Rattle.keyed_table.proofs.Calls.{has_some}
 use Rattle.keyed_table.proofs.table.KeyedTable.contains.Goals as goal
 

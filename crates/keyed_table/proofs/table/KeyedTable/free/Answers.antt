@@ -1,4 +1,4 @@
-use Rattle.std.proofs.Common.{◌≡◌, arith}
+use Rattle.std.proofs.Common.{arith}
 use Rattle.keyed_table.proofs.Calls.{count}
 use Rattle.keyed_table.proofs.table.KeyedTable.free.Goals as goal
 

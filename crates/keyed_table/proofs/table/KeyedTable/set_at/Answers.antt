@@ -1,4 +1,4 @@
-use Rattle.std.proofs.Common.{◌≡◌, sym, refl, arith}
+use Rattle.std.proofs.Common.{sym, refl, arith}
 use Rattle.std.proofs.lemmas.Bool.{lt-ltb, le-ltb}
 use Rattle.keyed_table.proofs.Calls.{count, put_kept, put_at, past_at, same_size}
 use Rattle.keyed_table.proofs.table.KeyedTable.set_at.Goals as goal

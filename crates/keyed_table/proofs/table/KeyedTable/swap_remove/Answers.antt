@@ -1,4 +1,4 @@
-use Rattle.std.proofs.Common.{◌≡◌, refl, ap, ◌∙◌, arith}
+use Rattle.std.proofs.Common.{refl, ap, ◌∙◌}
 use Rattle.keyed_table.specs.Chains.{listed, value_in}
 use Rattle.keyed_table.specs.Listing.{value_at, without}
 use Rattle.keyed_table.proofs.Calls.{value_there, value_missing, out_filled, out_range, out_kept, out_listing, out_missing}

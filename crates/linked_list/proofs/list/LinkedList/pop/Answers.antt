@@ -1,7 +1,7 @@
-use Rattle.std.proofs.Common.{◌≡◌, ℕ, Some, None, sym, refl, ap, ◌∙◌, subst}
+use Rattle.std.proofs.Common.{◌≡◌, Some, sym, refl, ap, subst}
 use Rattle.linked_list.specs.declared.position.Position.TheVariants.{Free}
 use Rattle.linked_list.specs.Places.{at}
-use Rattle.linked_list.proofs.Popping.{Popped, pops}
+use Rattle.linked_list.proofs.Popping.{pops}
 use Rattle.linked_list.proofs.list.LinkedList.pop.Goals as goal
 
 pub returns-then-remove : goal.returns-then-remove

@@ -1,7 +1,7 @@
-use Rattle.std.proofs.Common.{◌≡◌, true, false, not, sym, refl, ap, ◌∙◌}
+use Rattle.std.proofs.Common.{◌≡◌, true, false, sym, refl}
 use Rattle.linked_list.specs.Chains.{can_remove}
 use Rattle.std.proofs.lemmas.Bool.{false≢true, both_ways}
-use Rattle.linked_list.proofs.Removing.{Removed, removes, refused_list, listed_can}
+use Rattle.linked_list.proofs.Removing.{removes, refused_list, listed_can}
 use Rattle.linked_list.proofs.list.LinkedList.remove.Goals as goal
 
 pub returns-then-not-can_remove : goal.returns-then-not-can_remove

@@ -1,7 +1,7 @@
-use Rattle.std.proofs.Common.{◌≡◌, true, false, not, sym, refl, ap, ◌∙◌}
+use Rattle.std.proofs.Common.{◌≡◌, true, false, sym, refl}
 use Rattle.linked_list.specs.Chains.{can_swap}
 use Rattle.std.proofs.lemmas.Bool.{false≢true, both_ways}
-use Rattle.linked_list.proofs.Swapping.{Swapped, swaps, listed_can_swap}
+use Rattle.linked_list.proofs.Swapping.{swaps, listed_can_swap}
 use Rattle.linked_list.proofs.list.LinkedList.swap_remove.Goals as goal
 
 pub returns-then-not-can_swap : goal.returns-then-not-can_swap

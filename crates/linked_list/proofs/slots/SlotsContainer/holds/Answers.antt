@@ -1,4 +1,4 @@
-use Rattle.std.proofs.Common.{◌≡◌, ltb, sym, ap}
+use Rattle.std.proofs.Common.{ltb, sym, ap}
 use Rattle.std.proofs.lemmas.List.{length-map}
 use Rattle.linked_list.proofs.slots.SlotsContainer.holds.Goals as goal
 
