@@ -1,12 +1,12 @@
 -- The digits of a number of 32 bits are its only numeral.
 use Rattle.std.proofs.Common.{◌≡◌, ℕ, ◌^◌, ◌<◌, ◌≤◌, false, eqb, length, decimal, sym, ap, ◌∙◌, subst, inl, inr, arith, rules}
-use Rattle.std.specs.List.{AllByRecursion as All}
+use Rattle.std.specs.List.{AllByRecursion}
 use Rattle.std.proofs.lemmas.Fmt.{decimal_digit, decimal-digits_of, digits_decimal, digits_value-decimal, decimal_nonempty, first_decimal, decimal-digits_value}
 use Rattle.std.proofs.lemmas.Str.Parse.{IsNumeralModel, numerals_by_fold}
 use Rattle.std.proofs.lemmas.Bool.{cases_eq, ne_eqb}
 use Rattle.decimal.specs.Digits.{digits, number_after, Numeral, OnlyNumeral}
 
-own : IsNumeralModel (All (λ b. (48 ≤ b) × (b ≤ 57))) (number_after 0)
+own : IsNumeralModel (AllByRecursion (λ b. (48 ≤ b) × (b ≤ 57))) (number_after 0)
 own = numerals_by_fold _ (search rules) number_after (search rules)
 
 same_as_decimal : (n : ℕ) → n < 2 ^ 32 → decimal n ≡ digits n

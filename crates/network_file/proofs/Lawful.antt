@@ -1,6 +1,6 @@
 -- The laws of the check: the files that it grants are the layouts of allowed contents.
 use Rattle.std.proofs.Common.{◌≡◌, ℕ, zero, suc, ◌+◌, ◌*◌, ◌^◌, ◌<◌, List, [], ◌∷◌, ◌++◌, length, take, drop, Ok, sym, refl, ap, ◌∙◌, subst, arith, length-append}
-use Rattle.std.specs.List.{flat_map, AllByRecursion as All}
+use Rattle.std.specs.List.{flat_map, AllByRecursion}
 use Rattle.std.proofs.ByRecursion.{All-append}
 use Rattle.std.proofs.lemmas.List.{append-nil, take_at, drop_at, drop_all}
 use Rattle.std.proofs.lemmas.Bool.{lt-ltb, le-leb, eq-eqb}
@@ -28,11 +28,11 @@ fields_read b table =
     parts ∙ ap (λ l. fields_from b 16 (node_count b) ++ l) arcs in
     rw (count, tail, ← n, ← m, table.nodes_begin, table.arcs_after)
 
-all_fields_small : (b : List ℕ) (at count : ℕ) → All (λ x. x < 2 ^ 32) (fields_from b at count)
+all_fields_small : (b : List ℕ) (at count : ℕ) → AllByRecursion (λ x. x < 2 ^ 32) (fields_from b at count)
 all_fields_small b at zero = tt
 all_fields_small b at (suc count) = (field_small b at, all_fields_small b (at + 4) count)
 
-all_arcs_small : (b : List ℕ) (at count : ℕ) → All (λ (a : FileArc). (a.source < 2 ^ 32) × (a.target < 2 ^ 32) × (a.weight < 2 ^ 32)) (arcs_from b at count)
+all_arcs_small : (b : List ℕ) (at count : ℕ) → AllByRecursion (λ (a : FileArc). (a.source < 2 ^ 32) × (a.target < 2 ^ 32) × (a.weight < 2 ^ 32)) (arcs_from b at count)
 all_arcs_small b at zero = tt
 all_arcs_small b at (suc count) = ((field_small b at, field_small b (at + 4), field_small b (at + 8)), all_arcs_small b (at + 12) count)
 
@@ -79,7 +79,7 @@ same_arcs (x ∷ xs) (y ∷ ys) e =
     let later = same_arcs xs ys rest in
     cc
 
-arc_fields_small : (arcs : List FileArc) → All (λ (a : FileArc). (a.source < 2 ^ 32) × (a.target < 2 ^ 32) × (a.weight < 2 ^ 32)) arcs → All (λ x. x < 2 ^ 32) (flat_map arc_fields arcs)
+arc_fields_small : (arcs : List FileArc) → AllByRecursion (λ (a : FileArc). (a.source < 2 ^ 32) × (a.target < 2 ^ 32) × (a.weight < 2 ^ 32)) arcs → AllByRecursion (λ x. x < 2 ^ 32) (flat_map arc_fields arcs)
 arc_fields_small [] small = tt
 arc_fields_small (arc ∷ arcs) small = (small.0.0, (small.0.1, (small.0.2, arc_fields_small arcs small.1)))
 
@@ -93,7 +93,7 @@ module _ (contents : Contents) (allowed : Allowed contents) where
   bytes : List ℕ
   bytes = laid_out contents
 
-  all_small : All (λ x. x < 2 ^ 32) (fields_of contents)
+  all_small : AllByRecursion (λ x. x < 2 ^ 32) (fields_of contents)
   all_small = (
     omega arith,
     (

@@ -1,7 +1,7 @@
 -- Fields laid out and read again.
 use Rattle.std.proofs.Common.{◌≡◌, ℕ, zero, suc, ◌+◌, ◌-◌, ◌*◌, ◌/◌, ◌%◌, ◌^◌, ◌<◌, ◌≤◌, List, [], ◌∷◌, ◌++◌, length, get_or, drop, sym, refl, ap, ◌∙◌, append_assoc, arith, length-append}
 use native.Mathlib.Nat.{div-div-eq-div-mul, div-add-mod, mod-mod}
-use Rattle.std.specs.List.{flat_map, AllByRecursion as All}
+use Rattle.std.specs.List.{flat_map, AllByRecursion}
 use Rattle.std.proofs.lemmas.List.{drop_more, get_or-append_right}
 use Rattle.network_file.specs.Fields.{field_bytes, byte_at, field_at, fields_from}
 use Rattle.network_file.specs.Laws.{Bytes}
@@ -103,7 +103,7 @@ field_laid before rest n h =
     rw (p, q, r, s, e, f, g, k) (rw (mod-mod (n) 256, mod-mod (n / 256) 256, mod-mod (n / 65536) 256, mod-mod (n / 16777216) 256) (field_again n h))
 
 -- fields that were laid out after other bytes are read again
-pub fields_laid : (before fields : List ℕ) → All (λ n. n < 2 ^ 32) fields → fields_from (before ++ flat_map field_bytes fields) (length before) (length fields) ≡ fields
+pub fields_laid : (before fields : List ℕ) → AllByRecursion (λ n. n < 2 ^ 32) fields → fields_from (before ++ flat_map field_bytes fields) (length before) (length fields) ≡ fields
 unfolding field_bytes
 fields_laid before [] small = refl
 fields_laid before (n ∷ fields) small =

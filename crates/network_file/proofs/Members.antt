@@ -1,6 +1,6 @@
 -- The checks of the records, as facts on lists: nodes that differ, and ends that are listed.
 use Rattle.std.proofs.Common.{◌≡◌, ℕ, ◌+◌, ◌<◌, false, eqb, List, [], ◌∷◌, ◌++◌, length, get_or, Ok, Decides, sym, refl, ◌∙◌, subst, inl, inr, append_assoc, arith, length-append}
-use Rattle.std.specs.List.{ContainsAt as Has, AllByRecursion as All}
+use Rattle.std.specs.List.{ContainsAt as Has, AllByRecursion}
 use Rattle.std.proofs.lemmas.List.{append-nil, get_or_append_left, get_or_at, get_or_default, length_push}
 use Rattle.std.proofs.lemmas.Bool.{cases_Bool, cases_lt, not-true, both_ways}
 use Rattle.std.proofs.lemmas.Bool.Decides.{Decides-by_or, Decides-eqb}
@@ -56,7 +56,7 @@ granted_differ seen at (x ∷ xs) differ e =
     subst Differ (append_assoc seen (x ∷ []) xs) (granted_differ (seen ++ x ∷ []) (at + 4) xs (differ_push seen x differ new) parts.1)
 
 abbrev pub Listed : List ℕ → List FileArc → Type 0
-Listed nodes arcs = All (λ a. Has nodes a.source × Has nodes a.target) arcs
+Listed nodes arcs = AllByRecursion (λ a. Has nodes a.source × Has nodes a.target) arcs
 
 pub listed_granted : (nodes : List ℕ) (at : ℕ) (arcs : List FileArc) → Listed nodes arcs → ends_listed nodes at arcs ≡ Ok tt
 listed_granted nodes at [] listed = refl

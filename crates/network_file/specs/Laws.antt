@@ -1,7 +1,7 @@
 -- What the check means: the files that it grants are the layouts of the contents that a file may have, and a refused
 -- record is the first wrong one.
 use Rattle.std.specs.Prelude.{◌≡◌, ℕ, ◌+◌, ◌*◌, ◌/◌, ◌%◌, ◌^◌, ◌<◌, ◌≤◌, List, [], ◌∷◌, length, take, Ok, Err, ◌≢◌, slice_index}
-use Rattle.std.specs.List.{ContainsAt as Has, flat_map, AllByRecursion as All}
+use Rattle.std.specs.List.{ContainsAt as Has, flat_map, AllByRecursion}
 use Rattle.fault.specs.declared.Fault.TheVariants.{NodeRepeated, EndUnlisted}
 use Rattle.network_file.specs.Checks.{checked}
 use Rattle.network_file.specs.Layout.{Contents, laid_out}
@@ -10,10 +10,10 @@ use Rattle.network_file.specs.declared.arc.FileArc.{FileArc}
 
 -- contents that a network file may have: numbers of 32 bits, nodes that all differ, arcs between them, and the limits
 pub record Allowed (contents : Contents) : Type 0 where
-  pub node_numbers : All (λ x. x < 2 ^ 32) contents.nodes
-  pub arc_numbers : All (λ a. (a.source < 2 ^ 32) × (a.target < 2 ^ 32) × (a.weight < 2 ^ 32)) contents.arcs
+  pub node_numbers : AllByRecursion (λ x. x < 2 ^ 32) contents.nodes
+  pub arc_numbers : AllByRecursion (λ a. (a.source < 2 ^ 32) × (a.target < 2 ^ 32) × (a.weight < 2 ^ 32)) contents.arcs
   pub nodes_differ : (i j : ℕ) → i < j → j < length contents.nodes → slice_index contents.nodes i ≢ slice_index contents.nodes j
-  pub ends_listed : All (λ a. Has contents.nodes a.source × Has contents.nodes a.target) contents.arcs
+  pub ends_listed : AllByRecursion (λ a. Has contents.nodes a.source × Has contents.nodes a.target) contents.arcs
   pub node_limit : length contents.nodes ≤ 4096
   pub arc_limit : length contents.arcs ≤ 32768
   pub size_limit : length (laid_out contents) < 65536
