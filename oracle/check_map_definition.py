@@ -3,7 +3,7 @@
 
 usage: check_map_definition.py RECORDS..
 
-Each definition keeps its antt name with - written as _, so that the two can be read side by side. Every answer, the final
+Each definition keeps its antt name, so that the two can be read side by side. Every answer, the final
 nodes with their links, what edges_directed shows of each, and the final arcs are compared with the record, in sequence.
 After each edit the laws of Sound and Shown are tested too.
 """

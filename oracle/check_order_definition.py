@@ -38,109 +38,109 @@ def touched(arcs):
     return met
 
 
-def outDegree(arcs, untaken, x):
+def out_degree(arcs, untaken, x):
     return count(lambda a: a[0] == x and a[1] in untaken, arcs)
 
 
-def inDegree(arcs, untaken, x):
+def in_degree(arcs, untaken, x):
     return count(lambda a: a[1] == x and a[0] in untaken, arcs)
 
 
-def outNeighbours(arcs, x):
+def out_neighbours(arcs, x):
     return [a[1] for a in arcs if a[0] == x]
 
 
-def inNeighbours(arcs, x):
+def in_neighbours(arcs, x):
     return [a[0] for a in arcs if a[1] == x]
 
 
-def isSink(arcs, untaken, x):
-    return outDegree(arcs, untaken, x) == 0
+def is_sink(arcs, untaken, x):
+    return out_degree(arcs, untaken, x) == 0
 
 
-def isSource(arcs, untaken, x):
-    return not isSink(arcs, untaken, x) and inDegree(arcs, untaken, x) == 0
+def is_source(arcs, untaken, x):
+    return not is_sink(arcs, untaken, x) and in_degree(arcs, untaken, x) == 0
 
 
-def hasDifference(arcs, untaken, x):
-    return not isSink(arcs, untaken, x) and not inDegree(arcs, untaken, x) == 0
+def has_difference(arcs, untaken, x):
+    return not is_sink(arcs, untaken, x) and not in_degree(arcs, untaken, x) == 0
 
 
 def below(arcs, untaken, x, y):
-    return (outDegree(arcs, untaken, x) + inDegree(arcs, untaken, y)
-            < outDegree(arcs, untaken, y) + inDegree(arcs, untaken, x))
+    return (out_degree(arcs, untaken, x) + in_degree(arcs, untaken, y)
+            < out_degree(arcs, untaken, y) + in_degree(arcs, untaken, x))
 
 
-def isHighest(arcs, untaken, x):
-    return hasDifference(arcs, untaken, x) and count(
-        lambda y: hasDifference(arcs, untaken, y) and below(arcs, untaken, x, y), untaken) == 0
+def is_highest(arcs, untaken, x):
+    return has_difference(arcs, untaken, x) and count(
+        lambda y: has_difference(arcs, untaken, y) and below(arcs, untaken, x, y), untaken) == 0
 
 
 def sinks(arcs, untaken):
-    return keep(lambda x: isSink(arcs, untaken, x), untaken)
+    return keep(lambda x: is_sink(arcs, untaken, x), untaken)
 
 
-def sourceNodes(arcs, untaken):
-    return keep(lambda x: isSource(arcs, untaken, x), untaken)
+def source_nodes(arcs, untaken):
+    return keep(lambda x: is_source(arcs, untaken, x), untaken)
 
 
-def highestClass(arcs, untaken):
-    return keep(lambda x: isHighest(arcs, untaken, x), untaken)
+def highest_class(arcs, untaken):
+    return keep(lambda x: is_highest(arcs, untaken, x), untaken)
 
 
-def toFront(y, untaken):
+def to_front(y, untaken):
     return [y] + without(y, untaken) if y in untaken else untaken
 
 
-def allToFront(ys, untaken):
+def all_to_front(ys, untaken):
     for y in ys:
-        untaken = toFront(y, untaken)
+        untaken = to_front(y, untaken)
     return untaken
 
 
-def afterTaking(arcs, x, untaken):
-    return allToFront(inNeighbours(arcs, x), allToFront(outNeighbours(arcs, x), without(x, untaken)))
+def after_taking(arcs, x, untaken):
+    return all_to_front(in_neighbours(arcs, x), all_to_front(out_neighbours(arcs, x), without(x, untaken)))
 
 
 # a progress is (untaken, head, tail)
-def toHead(arcs, x, p):
-    return (afterTaking(arcs, x, p[0]), p[1] + [x], p[2])
+def to_head(arcs, x, p):
+    return (after_taking(arcs, x, p[0]), p[1] + [x], p[2])
 
 
-def toTail(arcs, x, p):
-    return (afterTaking(arcs, x, p[0]), p[1], [x] + p[2])
+def to_tail(arcs, x, p):
+    return (after_taking(arcs, x, p[0]), p[1], [x] + p[2])
 
 
-def takeFront(take, cls, p):
+def take_front(take, cls, p):
     return take(cls[0], p) if cls else p
 
 
-def takeSinks(arcs, n, p):
+def take_sinks(arcs, n, p):
     for _ in range(n):
-        p = takeFront(lambda x, q: toTail(arcs, x, q), sinks(arcs, p[0]), p)
+        p = take_front(lambda x, q: to_tail(arcs, x, q), sinks(arcs, p[0]), p)
     return p
 
 
-def takeSources(arcs, n, p):
+def take_sources(arcs, n, p):
     for _ in range(n):
-        p = takeFront(lambda x, q: toHead(arcs, x, q), sourceNodes(arcs, p[0]), p)
+        p = take_front(lambda x, q: to_head(arcs, x, q), source_nodes(arcs, p[0]), p)
     return p
 
 
-def allSinks(arcs, p):
-    return takeSinks(arcs, len(p[0]), p)
+def all_sinks(arcs, p):
+    return take_sinks(arcs, len(p[0]), p)
 
 
-def allSources(arcs, p):
-    return takeSources(arcs, len(p[0]), p)
+def all_sources(arcs, p):
+    return take_sources(arcs, len(p[0]), p)
 
 
-def oneHighest(arcs, p):
-    return takeFront(lambda x, q: toHead(arcs, x, q), highestClass(arcs, p[0]), p)
+def one_highest(arcs, p):
+    return take_front(lambda x, q: to_head(arcs, x, q), highest_class(arcs, p[0]), p)
 
 
 def round_(arcs, p):
-    return oneHighest(arcs, allSources(arcs, allSinks(arcs, p)))
+    return one_highest(arcs, all_sources(arcs, all_sinks(arcs, p)))
 
 
 def rounds(arcs, n, p):
@@ -149,7 +149,7 @@ def rounds(arcs, n, p):
     return p
 
 
-def greedyOrder(arcs):
+def greedy_order(arcs):
     p = rounds(arcs, len(touched(arcs)), (list(reversed(touched(arcs))), [], []))
     return p[1] + p[2]
 
@@ -265,7 +265,7 @@ def main():
         for path in sys.argv[1:]:
             lines = arcs_seen = most = 0
             for number, arcs, order, positions in recorded(path):
-                mine = greedyOrder(arcs)
+                mine = greedy_order(arcs)
                 holds = [k for k, a in enumerate(arcs) if held(mine, a)]
                 if mine != order or holds != positions:
                     sys.exit(f'{path}:{number}: differs\n{arcs}\n{order}\n{mine}')
@@ -278,14 +278,14 @@ def main():
     seen = 0
     for k in range(len(pairs) + 1):
         for arcs in itertools.combinations(pairs, k):
-            assert greedyOrder(list(arcs)) == good_node_sequence(arcs), arcs
+            assert greedy_order(list(arcs)) == good_node_sequence(arcs), arcs
             seen += 1
     print(f'{seen} networks on three nodes agree')
     rng = random.Random(1993)
     for k in range(4000):
         nodes = rng.randint(1, 9)
         arcs = [(rng.randrange(nodes), rng.randrange(nodes)) for _ in range(rng.randint(0, 3 * nodes))]
-        assert greedyOrder(arcs) == good_node_sequence(arcs), arcs
+        assert greedy_order(arcs) == good_node_sequence(arcs), arcs
     print('4000 random networks agree')
 
 

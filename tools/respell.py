@@ -59,7 +59,7 @@ def spelled(name):
         parts = name.split("-")
         return "".join(p[:1].upper() + p[1:] for p in parts)
     name = name.replace("-", "_")
-    return re.sub(r"(?<=[a-z0-9])([A-Z])", lambda m: "_" + m.group(1).lower(), name)
+    return re.sub(r"(?<=[A-Za-z0-9])([A-Z])", lambda m: "_" + m.group(1).lower(), name)
 
 
 def turned(text, names, fields, comment):

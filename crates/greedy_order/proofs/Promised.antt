@@ -99,7 +99,7 @@ pub promises : {arcs : List Link} {order : List ℕ} → Greedy arcs (touched ar
 promises {arcs} {order} g = record {
   lists_the_touched_nodes = the_touched_nodes_are_listed arcs order g;
   every_loop_is_held = every_loop_is_held arcs order g;
-  every_closed_walk_has_aHeld_arc = every_closed_walk_has_a_held_arc arcs order g;
+  every_closed_walk_has_a_held_arc = every_closed_walk_has_a_held_arc arcs order g;
   no_arc_is_held_exactly_without_closed_walk = no_arc_is_held_exactly_without_closed_walk arcs order g;
   at_most_half_are_held = at_most_half_are_held arcs order g;
   touched_plus_six_held_is_at_most_three_arcs = touched_plus_six_held_is_at_most_three_arcs arcs order g;

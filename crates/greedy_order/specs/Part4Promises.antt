@@ -39,7 +39,7 @@ TouchedPlusSixHeldWithPairsAndLoops arcs order = length (touched arcs) + 6 * hel
 pub record Promises (arcs : List Link) (order : List ℕ) : Type 0 where
   pub lists_the_touched_nodes : ListsTheTouchedNodes arcs order
   pub every_loop_is_held : EveryLoopIsHeld arcs order
-  pub every_closed_walk_has_aHeld_arc : EveryClosedWalkHasAHeldArc arcs order
+  pub every_closed_walk_has_a_held_arc : EveryClosedWalkHasAHeldArc arcs order
   pub no_arc_is_held_exactly_without_closed_walk : NoArcIsHeldExactlyWithoutClosedWalk arcs order
   pub at_most_half_are_held : AtMostHalfAreHeld arcs order
   pub touched_plus_six_held_is_at_most_three_arcs : TouchedPlusSixHeldIsAtMostThreeArcs arcs order

@@ -3,7 +3,7 @@
 use Rattle.std.specs.Prelude.{◌≡◌, ℕ, ◌+◌, ◌≤◌, Bool, true, false, cond, not, ◌&&◌, ◌||◌, List, [], ◌∷◌, ◌++◌, ◌==◌, nat_le}
 use Rattle.network.specs.Counting.{count, has, EachOnce}
 
--- an arc without its weight: source.0, target.1
+-- an arc without its weight: its source is .0, its target .1
 abbrev pub Link : Type 0
 Link = ℕ × ℕ
 

@@ -50,6 +50,7 @@ fn last_swapped(newest: Option<u32>, oldest: Option<u32>, place: u32) -> Option<
 }
 
 // Takes a place out of a list of links. The newest comes in its place.
+#[tactic(auto, using(crate::proofs::Composing::by_test, crate::proofs::Composing::neighbors_kept))]
 fn swap_link<N: Copy>(list: &mut LinkedList, links: &mut Slots<'_, LinkPlace<N>>, place: u32)
     ensures placed { positions_of links.new.slots.now ≡ (if can_swap (positions_of links.old.slots.now) list.old.start place then after_swap (positions_of links.old.slots.now) list.old.start place else positions_of links.old.slots.now) }
     ensures started { list.new.start ≡ (if can_swap (positions_of links.old.slots.now) list.old.start place then start_after_swap (positions_of links.old.slots.now) list.old.start place else list.old.start) }

@@ -1,7 +1,7 @@
-use Rattle.std.proofs.Common.{get_or}
+use Rattle.std.proofs.Common.{refl}
 use Rattle.graphmap.specs.Maps.{map_model}
 use Rattle.map_model.proofs.Listing.{all_edges_show}
-use Rattle.replay.proofs.Replayed.{going_none, going_at, going_more, going_all}
+use Rattle.replay.proofs.Replayed.{going_none, going_read, going_all}
 use Rattle.replay.proofs.edits.replay_edits.Goals as goal
 
 pub loop-i-init : goal.loop-i-init
@@ -9,15 +9,8 @@ loop-i-init g c = going_none g.N.NodeKey.index (map_model c.args.map.now) c.args
 
 pub loop-i-preserved : goal.loop-i-preserved
 loop-i-preserved g c =
-    let ix = g.N.NodeKey.index in
-    let m₀ = map_model c.args.map.now in
-    let s₀ = c.args.steps.now in
-    let m = map_model c.loop-i.map in
-    let s = c.loop-i.steps in
-    let i = c.loop-i.i in
-    let d = c.index-steps-i.result in
-    going_more ix m₀ s₀ m (map_model c.apply-answer.new.map) s i (get_or s i d) d c.apply-answer.result c.loop-i-test.true c.loop-i.invariant
-    (going_at ix m₀ s₀ m s i d c.loop-i.invariant) c.apply-answer.ensures.answer c.apply-answer.ensures.shown
+    going_read g.N.NodeKey.index (map_model c.args.map.now) c.args.steps.now (map_model c.loop-i.map) (map_model c.apply-answer.new.map) c.loop-i.steps c.loop-i.i
+    _ _ c.apply-answer.result c.loop-i-test.true c.loop-i.invariant refl c.apply-answer.ensures.answer c.apply-answer.ensures.shown
 
 pub returns : goal.returns
 returns g c =
