@@ -2,13 +2,11 @@
 
 #![tactic(auto)]
 
-mod lines;
-mod text;
-
 use anyhow::anyhow;
+use edit_lines::{JunctionStep, edit, number, write_map, write_steps};
 use fault::Fault;
-use graphmap::{ArcPlace, GraphMap, LinkPlace, NodePlace, Places};
-use keyed_table::Slot;
+use graphmap::GraphMap;
+use heap_tables::MapTables;
 use keys::{Junction, Key};
 use replay::{Step, replay_edits};
 use std::alloc::Global;
@@ -21,16 +19,12 @@ const MOST_NODES: u32 = 4097;
 
 const MOST_ARCS: u32 = 16385;
 
+// This, `argument` and `run` stand in `audit_order` too: they work with the handle, of which no contract of a shared call could speak.
 // The edits of all lines, or the number of the first line that is none.
-fn read_steps(
-    rt: &HostRuntime,
-    steps: &mut Vec<Step<Junction, u32>>,
-) -> anyhow::Result<Option<u64>> {
-    let mut count: u64 = 0;
-    for line in BufReader::new(rt.alloc(), rt.stdin())?.lines(rt.alloc()) {
-        count = count.saturating_add(1);
-        let line = line?;
-        match text::edit(line.as_str()) {
+fn read_steps(rt: &HostRuntime, steps: &mut Vec<JunctionStep>) -> anyhow::Result<Option<u64>> {
+    let lines = BufReader::new(rt.alloc(), rt.stdin())?.lines(rt.alloc());
+    for (line, count) in lines.zip(1u64..) {
+        match edit(rt.alloc(), line?.as_str())? {
             Some(edit) => steps.push(Step { edit, answer: None })?,
             None => return Ok(Some(count)),
         }
@@ -43,38 +37,28 @@ fn audit(
     heap: Global,
     nodes: u32,
     arcs: u32,
-    steps: &mut Vec<Step<Junction, u32>>,
+    steps: &mut [JunctionStep],
     out: &mut String,
 ) -> anyhow::Result<Result<(), Fault>> {
     let nodes = nodes.min(MOST_NODES) as usize;
     let arcs = arcs.min(MOST_ARCS) as usize;
-    let mut node_places: Vec<NodePlace<Junction>> = vec![in heap; Slot::blank(); nodes]?;
-    let mut arc_places: Vec<ArcPlace<Junction, u32>> = vec![in heap; Slot::blank(); arcs]?;
-    let mut link_places: Vec<LinkPlace<Junction>> = vec![in heap; LinkPlace::blank(); 2 * arcs]?;
-    let mut places = Places {
-        nodes: node_places.as_mut_slice(),
-        arcs: arc_places.as_mut_slice(),
-        links: link_places.as_mut_slice(),
-    };
+    let mut tables = MapTables::new(heap, nodes, arcs)?;
     let mut map: GraphMap<'_, Junction, u32> = GraphMap::new();
-    if let Err(fault) = map.with_capacity(&mut places) {
+    if let Err(fault) = map.with_capacity(&mut tables.places()) {
         return Ok(Err(fault));
     }
-    replay_edits(&mut map, steps.as_mut_slice());
-    lines::write_steps(out, steps.as_slice())?;
-    lines::write_map(out, &map)?;
+    replay_edits(&mut map, steps);
+    write_steps(out, steps)?;
+    write_map(out, map.open())?;
     Ok(Ok(()))
 }
 
 // The number in an argument, or `default` where there is none.
 fn argument(word: Option<String>, default: u32) -> anyhow::Result<u32> {
-    match word {
-        None => Ok(default),
-        Some(word) => match text::number(word.as_str()) {
-            Some(n) => Ok(n),
-            None => Err(anyhow!("not a number of places")),
-        },
-    }
+    let Some(word) = word else {
+        return Ok(default);
+    };
+    number(word.as_str()).ok_or(anyhow!("not a number of places"))
 }
 
 fn run(rt: &HostRuntime) -> anyhow::Result<()> {
@@ -83,22 +67,18 @@ fn run(rt: &HostRuntime) -> anyhow::Result<()> {
     let _program = arguments.next();
     let nodes = argument(arguments.next(), 4096)?;
     let arcs = argument(arguments.next(), 16384)?;
-    let mut steps: Vec<Step<Junction, u32>> = Vec::new(heap);
+    let mut steps: Vec<JunctionStep> = Vec::new(heap);
     if let Some(line) = read_steps(rt, &mut steps)? {
         println!(rt; "line {line}: not an edit")?;
         return Err(anyhow!("not an edit"));
     }
     let mut out = String::new(heap);
-    let done = audit(heap, nodes, arcs, &mut steps, &mut out)?;
+    let done = audit(heap, nodes, arcs, steps.as_mut_slice(), &mut out)?;
     if let Err(fault) = done {
-        lines::write_fault(&mut out, fault)?;
-        writeln!(&mut out, "")?;
+        writeln!(&mut out, "{fault}")?;
     }
     rt.print(out.as_str())?;
-    match done {
-        Ok(()) => Ok(()),
-        Err(_) => Err(anyhow!("refused")),
-    }
+    done.map_err(|_| anyhow!("refused"))
 }
 
 fn main(rt: HostRuntime) -> anyhow::Result<()> {

@@ -3,38 +3,32 @@
 
 #![tactic(auto)]
 
-mod lines;
 mod order;
-mod tables;
-mod text;
 
 use anyhow::anyhow;
+use edit_lines::{JunctionStep, edit, number, write_map, write_steps};
 use fault::Fault;
 use feedback_arc_set::Ordering;
-use graphmap::GraphMap;
+use graphmap::{GraphMap, OpenMap};
+use heap_tables::{MapTables, WorkTables};
 use keys::{Junction, Key};
 use replay::{Step, replay};
 use std::alloc::Global;
 use std::env;
 use std::fmt::Write;
 use std::io::{BufRead, BufReader};
-use tables::{MapTables, WorkTables};
 
 // One more than a map can have, so that it is the map that refuses.
 const MOST_NODES: u32 = 4097;
 
 const MOST_ARCS: u32 = 16385;
 
+// This, `argument` and `run` stand in `audit` too: they work with the handle, of which no contract of a shared call could speak.
 // The edits of all lines, or the number of the first line that is none.
-fn read_steps(
-    rt: &HostRuntime,
-    steps: &mut Vec<Step<Junction, u32>>,
-) -> anyhow::Result<Option<u64>> {
-    let mut count: u64 = 0;
-    for line in BufReader::new(rt.alloc(), rt.stdin())?.lines(rt.alloc()) {
-        count = count.saturating_add(1);
-        let line = line?;
-        match text::edit(line.as_str()) {
+fn read_steps(rt: &HostRuntime, steps: &mut Vec<JunctionStep>) -> anyhow::Result<Option<u64>> {
+    let lines = BufReader::new(rt.alloc(), rt.stdin())?.lines(rt.alloc());
+    for (line, count) in lines.zip(1u64..) {
+        match edit(rt.alloc(), line?.as_str())? {
             Some(edit) => steps.push(Step { edit, answer: None })?,
             None => return Ok(Some(count)),
         }
@@ -47,18 +41,17 @@ fn audit(
     heap: Global,
     nodes: u32,
     arcs: u32,
-    steps: &mut Vec<Step<Junction, u32>>,
+    steps: &mut [JunctionStep],
     out: &mut String,
 ) -> anyhow::Result<Result<(), Fault>> {
     let nodes = nodes.min(MOST_NODES) as usize;
     let arcs = arcs.min(MOST_ARCS) as usize;
     let mut map_tables = MapTables::new(heap, nodes, arcs)?;
     let mut work_tables = WorkTables::new(heap, nodes, arcs)?;
-    let mut places = map_tables.places();
     let mut ordering = work_tables.ordering();
     let mut map: GraphMap<'_, Junction, u32> = GraphMap::new();
-    match replay(&mut map, &mut places, steps.as_mut_slice(), &mut ordering) {
-        Ok(ordered) => write_run(out, steps.as_slice(), &map, &ordering, ordered),
+    match replay(&mut map, &mut map_tables.places(), steps, &mut ordering) {
+        Ok(ordered) => write_run(out, steps, map.open(), &ordering, ordered),
         Err(fault) => Ok(Err(fault)),
     }
 }
@@ -66,13 +59,13 @@ fn audit(
 // What the edits did, what the map then shows, and its order.
 fn write_run(
     out: &mut String,
-    steps: &[Step<Junction, u32>],
-    map: &GraphMap<'_, Junction, u32>,
+    steps: &[JunctionStep],
+    map: OpenMap<'_, '_, Junction, u32>,
     ordering: &Ordering<'_>,
     ordered: Result<u32, Fault>,
 ) -> anyhow::Result<Result<(), Fault>> {
-    lines::write_steps(out, steps)?;
-    lines::write_map(out, map)?;
+    write_steps(out, steps)?;
+    write_map(out, map)?;
     match ordered {
         Ok(touched) => order::write_order(out, map, ordering, touched),
         Err(fault) => Ok(Err(fault)),
@@ -81,13 +74,10 @@ fn write_run(
 
 // The number in an argument, or `default` where there is none.
 fn argument(word: Option<String>, default: u32) -> anyhow::Result<u32> {
-    match word {
-        None => Ok(default),
-        Some(word) => match text::number(word.as_str()) {
-            Some(n) => Ok(n),
-            None => Err(anyhow!("not a number of places")),
-        },
-    }
+    let Some(word) = word else {
+        return Ok(default);
+    };
+    number(word.as_str()).ok_or(anyhow!("not a number of places"))
 }
 
 fn run(rt: &HostRuntime) -> anyhow::Result<()> {
@@ -96,22 +86,18 @@ fn run(rt: &HostRuntime) -> anyhow::Result<()> {
     let _program = arguments.next();
     let nodes = argument(arguments.next(), 4096)?;
     let arcs = argument(arguments.next(), 16384)?;
-    let mut steps: Vec<Step<Junction, u32>> = Vec::new(heap);
+    let mut steps: Vec<JunctionStep> = Vec::new(heap);
     if let Some(line) = read_steps(rt, &mut steps)? {
         println!(rt; "line {line}: not an edit")?;
         return Err(anyhow!("not an edit"));
     }
     let mut out = String::new(heap);
-    let done = audit(heap, nodes, arcs, &mut steps, &mut out)?;
+    let done = audit(heap, nodes, arcs, steps.as_mut_slice(), &mut out)?;
     if let Err(fault) = done {
-        lines::write_fault(&mut out, fault)?;
-        writeln!(&mut out, "")?;
+        writeln!(&mut out, "{fault}")?;
     }
     rt.print(out.as_str())?;
-    match done {
-        Ok(()) => Ok(()),
-        Err(_) => Err(anyhow!("refused")),
-    }
+    done.map_err(|_| anyhow!("refused"))
 }
 
 fn main(rt: HostRuntime) -> anyhow::Result<()> {

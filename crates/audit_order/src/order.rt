@@ -1,15 +1,16 @@
-// What `audit` prints of the order, the held arcs and the bounds.
+// What `audit_order` prints of the order, the held arcs and the bounds.
 
-use crate::lines::write_arc;
+use edit_lines::write_arc;
 use fault::Fault;
 use feedback_arc_set::{HeldArcs, Ordering};
-use graphmap::{GraphMap, OpenMap};
+use graphmap::OpenMap;
 use keys::Junction;
 use most_held::most_held;
 use std::fmt::Write;
 
-// How many arcs a cursor has still to show.
-fn held_count(held: &mut HeldArcs<'_, '_>, map: OpenMap<'_, '_, Junction, u32>) -> u32 {
+// How many arcs a cursor has still to show. It is handed the map at each step, so it is no iterator; it shows no more
+// arcs than the map has.
+fn held_count(mut held: HeldArcs<'_, '_>, map: OpenMap<'_, '_, Junction, u32>) -> u32 {
     let mut count: u32 = 0;
     for _ in 0..map.edge_count() {
         if held.next(&map).is_some() {
@@ -19,29 +20,25 @@ fn held_count(held: &mut HeldArcs<'_, '_>, map: OpenMap<'_, '_, Junction, u32>) 
     count
 }
 
-fn write_places(out: &mut String, ordering: &Ordering<'_>, touched: u32) -> anyhow::Result<()> {
-    for place in 0..touched {
-        if let Some(node) = ordering.node_at(place) {
-            writeln!(out, "{place} {}", node.get())?;
-        }
+fn write_places(out: &mut String, ordering: &Ordering<'_>) -> anyhow::Result<()> {
+    for (place, node) in ordering.nodes().iter().enumerate() {
+        writeln!(out, "{place} {node}")?;
     }
     Ok(())
 }
 
+// Counted for the same reason.
 fn write_held(
     out: &mut String,
-    held: &mut HeldArcs<'_, '_>,
+    mut held: HeldArcs<'_, '_>,
     map: OpenMap<'_, '_, Junction, u32>,
 ) -> anyhow::Result<()> {
     for _ in 0..map.edge_count() {
-        match held.next(&map) {
-            Some(shown) => write_arc(
-                out,
-                "held",
-                (shown.arc.source, shown.arc.target, shown.arc.weight),
-            )?,
-            None => break,
-        }
+        let Some(shown) = held.next(&map) else {
+            break;
+        };
+        let arc = shown.arc;
+        write_arc(out, "held", (arc.source, arc.target, arc.weight))?;
     }
     Ok(())
 }
@@ -63,24 +60,22 @@ fn write_bounds(
 /// The counts, the order, the held arcs and the bounds.
 pub fn write_order(
     out: &mut String,
-    map: &GraphMap<'_, Junction, u32>,
+    map: OpenMap<'_, '_, Junction, u32>,
     ordering: &Ordering<'_>,
     touched: u32,
 ) -> anyhow::Result<Result<(), Fault>> {
-    let map = map.open();
-    let (mut counted, mut held) = match (ordering.held(&map), ordering.held(&map)) {
-        (Ok(counted), Ok(held)) => (counted, held),
-        (Err(fault), _) => return Ok(Err(fault)),
-        (_, Err(fault)) => return Ok(Err(fault)),
+    let held = match ordering.held(&map) {
+        Ok(held) => held,
+        Err(fault) => return Ok(Err(fault)),
     };
-    let count = held_count(&mut counted, map);
+    let count = held_count(held, map);
     writeln!(
         out,
         "nodes {touched} arcs {} held {count}",
         map.edge_count()
     )?;
-    write_places(out, ordering, touched)?;
-    write_held(out, &mut held, map)?;
+    write_places(out, ordering)?;
+    write_held(out, held, map)?;
     write_bounds(out, map, touched)?;
     Ok(Ok(()))
 }

@@ -3,8 +3,7 @@ use Rattle.std.proofs.Common.{◌≡◌, ℕ, ◌<◌, ◌≤◌, Bool, true, fa
 use Rattle.std.proofs.lemmas.List.{get_or-set_same, get_or-set_other, get_or_past}
 use Rattle.std.proofs.lemmas.Bool.{cases_eq, cases_lt, eq-eqb, ne_eqb, eqb-true, false≢true, cond-true, cond-false, and_parts, lt-ltb}
 use Rattle.std.proofs.lemmas.Bool.Decides.{nat_tests}
-use Rattle.linked_list.specs.declared.position.Position.{Position}
-use Rattle.linked_list.specs.declared.position.Position.TheVariants.{Free}
+use Rattle.linked_list.specs.Places.{Position}
 use Rattle.linked_list.specs.Places.{is_in, at}
 use Rattle.linked_list.specs.Chains.{first, Holds, Other}
 use Rattle.linked_list.specs.Chains as linked
@@ -152,7 +151,7 @@ module _ (L M : List Position) (D : ℕ → ℕ) (starts : List (Option ℕ)) (u
 
 -- ---- the calls of a list, at the class c: s is its start before and s' after
 pub remove_filed : (L M : List Position) (D : ℕ → ℕ) (starts starts' : List (Option ℕ)) (us : List ℕ) (c y i : ℕ) (s s' : Option ℕ) (r : Bool) → s ≡ get_or starts c None → i ≡ y → starts' ≡ set starts c s'
-    → ((l : List ℕ) → Holds L s l → linked.has l i ≡ true → r ≡ true) → Becomes (linked.without i) L s M s' → OthersStayIfListed i L s M → (r ≡ true → at M i ≡ Free) → StatusStays i L M
+    → ((l : List ℕ) → Holds L s l → linked.has l i ≡ true → r ≡ true) → Becomes (linked.without i) L s M s' → OthersStayIfListed i L s M → (r ≡ true → at M i ≡ None) → StatusStays i L M
     → D y ≡ c → has us y ≡ true → Filed L D starts us → Filed M D starts' (without y us)
 remove_filed L M D starts starts' us c y i s s' r se ie oe granted listed others freed status d m f =
     let h : Holds L s (of_class D c us) = subst (λ v. Holds L v (of_class D c us)) (sym se) (f.each c) in

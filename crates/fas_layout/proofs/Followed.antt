@@ -5,11 +5,12 @@ use Rattle.std.proofs.lemmas.Bool.{cases_eq, cases_lt, ne_eqb, cases_Bool, cond-
 use Rattle.network.specs.Counting.{has, without, one}
 use Rattle.network.proofs.Sums.{has_head, has_without}
 use Rattle.greedy_order.specs.Part3Order.{to_front, all_to_front}
-use Rattle.fas_layout.specs.declared.direction.Direction.{Direction}
-use Rattle.fas_layout.specs.declared.direction.Direction.TheVariants.{Outgoing, Incoming}
+use Rattle.network.specs.declared.direction.CompactDirection.{CompactDirection}
+use Rattle.network.specs.declared.direction.CompactDirection.TheVariants.{Outgoing, Incoming}
 use Rattle.fas_layout.specs.Columns.{Columns, Neighbours, SameLinks}
 use Rattle.fas_layout.specs.Classes.{Sorted}
-use Rattle.fas_layout.specs.Following.{later_of, Follows, occurrences, places_left, Lowering, degrees, opposite, LostOne, LostAll, Updated}
+use Rattle.network.specs.Directions.{opposite}
+use Rattle.fas_layout.specs.Following.{later_of, Follows, occurrences, places_left, Lowering, degrees, LostOne, LostAll, Updated}
 use Rattle.fas_layout.proofs.Lowered.{same_links, links_same}
 
 pub has_front : (y : ℕ) (us : List ℕ) (z : ℕ) → has (to_front y us) z ≡ has us z
@@ -88,15 +89,15 @@ places_less P at at' p len e a = rw a (places_fall P at p len e)
 
 -- ---- the walk along a list, as the code makes it
 -- what holds from turn to turn
-pub record Walked (d : Direction) (m : ℕ) (P : Neighbours) (t : Columns) (s : List (Option ℕ)) (t' : Columns) (s' : List (Option ℕ)) (from at : Option ℕ) : Type 0 where
+pub record Walked (d : CompactDirection) (m : ℕ) (P : Neighbours) (t : Columns) (s : List (Option ℕ)) (t' : Columns) (s' : List (Option ℕ)) (from at : Option ℕ) : Type 0 where
   pub lowering : (ns us : List ℕ) → Follows P 0 from ns → Sorted m t s us → Lowering P ns us at (Sorted m t' s') (degrees d t) (degrees d t')
   pub other : degrees (opposite d) t' ≡ degrees (opposite d) t
   pub links : SameLinks t' t
 
-pub walked_none : (d : Direction) (m : ℕ) (P : Neighbours) (t : Columns) (s : List (Option ℕ)) (from : Option ℕ) → Walked d m P t s t s from from
+pub walked_none : (d : CompactDirection) (m : ℕ) (P : Neighbours) (t : Columns) (s : List (Option ℕ)) (from : Option ℕ) → Walked d m P t s t s from from
 walked_none d m P t s from = record { lowering = λ ns us f h. lowering_none P ns us from (Sorted m t s) (degrees d t) f h; other = refl; links = links_same t }
 
-pub walked_more : (d : Direction) (m : ℕ) (P : Neighbours) (t t1 t2 : Columns) (s s1 s2 : List (Option ℕ)) (from at at' : Option ℕ) (p y : ℕ) → at ≡ Some p → y ≡ get_or P.nodes p 0 → at' ≡ later_of p (get_or P.nexts p None)
+pub walked_more : (d : CompactDirection) (m : ℕ) (P : Neighbours) (t t1 t2 : Columns) (s s1 s2 : List (Option ℕ)) (from at at' : Option ℕ) (p y : ℕ) → at ≡ Some p → y ≡ get_or P.nodes p 0 → at' ≡ later_of p (get_or P.nexts p None)
     → LostOne d m t1 s1 t2 s2 y → Walked d m P t s t1 s1 from at → Walked d m P t s t2 s2 from at'
 walked_more d m P t t1 t2 s s1 s2 from at at' p y e n a l w = record {
   lowering = λ ns us f h. lowering_more P ns us at at' (Sorted m t1 s1) (Sorted m t2 s2) (degrees d t) (degrees d t1) (degrees d t2) p y e n a l.sorted l.falls (w.lowering ns us f h);
@@ -104,7 +105,7 @@ walked_more d m P t t1 t2 s s1 s2 from at at' p y e n a l w = record {
   links = same_links t2 t1 t l.links w.links;
 }
 
-pub walked_all : (d : Direction) (m : ℕ) (P : Neighbours) (t t' : Columns) (s s' : List (Option ℕ)) (from at : Option ℕ) → at ≡ None → Walked d m P t s t' s' from at → LostAll d m P t s t' s' from
+pub walked_all : (d : CompactDirection) (m : ℕ) (P : Neighbours) (t t' : Columns) (s s' : List (Option ℕ)) (from at : Option ℕ) → at ≡ None → Walked d m P t s t' s' from at → LostAll d m P t s t' s' from
 walked_all d m P t t' s s' from at e w = record {
   sorted = λ ns us f h. (lowering_all P ns us at (Sorted m t' s') (degrees d t) (degrees d t') e (w.lowering ns us f h)).state;
   falls = λ ns us f h. (lowering_all P ns us at (Sorted m t' s') (degrees d t) (degrees d t') e (w.lowering ns us f h)).falls;

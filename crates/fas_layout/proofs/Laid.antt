@@ -13,7 +13,7 @@ use Rattle.fas_layout.specs.Columns.{Columns, Neighbours, SameButPositions, clas
 use Rattle.fas_layout.specs.Classes.{Filed}
 use Rattle.fas_layout.specs.Following.{Follows}
 use Rattle.fas_layout.specs.Stages.{Stands}
-use Rattle.fas_layout.specs.declared.direction.Direction.TheVariants.{Outgoing, Incoming}
+use Rattle.network.specs.declared.direction.CompactDirection.TheVariants.{Outgoing, Incoming}
 use Rattle.fas_layout.specs.Laying.{EndsBelow, down, Sized, link_at, links_from, leaving, coming, Laid, Led, LeadsTo}
 use Rattle.fas_layout.proofs.Filing.{refile}
 use Rattle.fas_layout.proofs.Counted.{count_le}

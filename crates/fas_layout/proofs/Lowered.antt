@@ -7,10 +7,11 @@ use Rattle.linked_list.specs.Places.{is_in, at}
 use Rattle.network.specs.Counting.{has, without, one}
 use Rattle.network.proofs.Sums.{has_without}
 use Rattle.greedy_order.specs.Part3Order.{to_front}
-use Rattle.fas_layout.specs.declared.direction.Direction.{Direction}
-use Rattle.fas_layout.specs.declared.direction.Direction.TheVariants.{Outgoing, Incoming}
+use Rattle.network.specs.declared.direction.CompactDirection.{CompactDirection}
+use Rattle.network.specs.declared.direction.CompactDirection.TheVariants.{Outgoing, Incoming}
 use Rattle.fas_layout.specs.Columns.{Columns, SameLinks, SameButPositions, class_of, class_at}
-use Rattle.fas_layout.specs.Following.{degrees, opposite, LostOne}
+use Rattle.network.specs.Directions.{opposite}
+use Rattle.fas_layout.specs.Following.{degrees, LostOne}
 use Rattle.fas_layout.specs.Classes.{Filed, Sorted}
 use Rattle.fas_layout.proofs.Filing.{filed_inside, refile}
 
@@ -94,7 +95,7 @@ module _ (m y c d : ℕ) (t0 t1 t2 t3 : Columns) (s0 s1 s2 : List (Option ℕ))
       })
 
 -- only the positions differ: so do not the degrees
-same_degrees : (d : Direction) (a b : Columns) → SameButPositions a b → degrees d a ≡ degrees d b
+same_degrees : (d : CompactDirection) (a b : Columns) → SameButPositions a b → degrees d a ≡ degrees d b
 same_degrees Outgoing a b k = k.out_degrees
 same_degrees Incoming a b k = k.in_degrees
 
@@ -105,7 +106,7 @@ pub links_same : (a : Columns) → SameLinks a a
 links_same a = record { outs = refl; ins = refl; placed = refl }
 
 -- an untaken node is taken out of its class, its degree falls, and it is put in again at the front
-module _ (d : Direction) (m y c e : ℕ) (t0 t1 t2 t3 : Columns) (s0 s1 s2 : List (Option ℕ))
+module _ (d : CompactDirection) (m y c e : ℕ) (t0 t1 t2 t3 : Columns) (s0 s1 s2 : List (Option ℕ))
     (unfiled : (D : ℕ → ℕ) (us : List ℕ) → D y ≡ c → has us y ≡ true → Filed t0.positions D s0 us → Filed t1.positions D s1 (without y us))
     (k1 : SameButPositions t1 t0)
     (lay : t2.positions ≡ t1.positions) (falls2 : degrees d t2 ≡ set (degrees d t1) y (get_or (degrees d t1) y 0 - 1)) (other2 : degrees (opposite d) t2 ≡ degrees (opposite d) t1) (links2 : SameLinks t2 t1)
@@ -120,7 +121,7 @@ module _ (d : Direction) (m y c e : ℕ) (t0 t1 t2 t3 : Columns) (s0 s1 s2 : Lis
   others : degrees (opposite d) t2 ≡ degrees (opposite d) t0
   others = other2 ∙ same_degrees (opposite d) t1 t0 k1
 
-  both : (d : Direction) → ((z : ℕ) → get_or (degrees d t2) z 0 ≡ get_or (degrees d t0) z 0 - one (eqb y z)) → degrees (opposite d) t2 ≡ degrees (opposite d) t0
+  both : (d : CompactDirection) → ((z : ℕ) → get_or (degrees d t2) z 0 ≡ get_or (degrees d t0) z 0 - one (eqb y z)) → degrees (opposite d) t2 ≡ degrees (opposite d) t0
       → ((z : ℕ) → z ≢ y → (get_or t2.out_degrees z 0 ≡ get_or t0.out_degrees z 0) × (get_or t2.in_degrees z 0 ≡ get_or t0.in_degrees z 0)) × ((get_or t2.out_degrees y 0 ≤ get_or t0.out_degrees y 0) × (get_or t2.in_degrees y 0 ≤ get_or t0.in_degrees y 0))
   both Outgoing f o = (
     (λ z n. (lowered_other t0.out_degrees t2.out_degrees y f z n, ap (λ l. get_or l z 0) o)),
@@ -140,7 +141,7 @@ module _ (d : Direction) (m y c e : ℕ) (t0 t1 t2 t3 : Columns) (s0 s1 s2 : Lis
   }
 
 -- a taken node stays where it is
-pub lost_taken : (d : Direction) (m y : ℕ) (t : Columns) (s : List (Option ℕ)) → is_in (at t.positions y) ≡ false → LostOne d m t s t s y
+pub lost_taken : (d : CompactDirection) (m y : ℕ) (t : Columns) (s : List (Option ℕ)) → is_in (at t.positions y) ≡ false → LostOne d m t s t s y
 lost_taken d m y t s free = record {
   sorted = λ us h. subst (Sorted m t s) (sym (front_taken y us (gone us h))) h;
   falls = λ us h z k.

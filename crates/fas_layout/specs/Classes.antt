@@ -1,6 +1,6 @@
 -- The untaken nodes filed by class.
 use Rattle.std.specs.Prelude.{◌≡◌, ℕ, ◌*◌, ◌<◌, ◌≤◌, true, List, length, Some, None, Option, nat_eq, slice_index, slice_index_or}
-use Rattle.linked_list.specs.declared.position.Position.{Position}
+use Rattle.linked_list.specs.Places.{Position}
 use Rattle.linked_list.specs.Places.{is_in, at}
 use Rattle.linked_list.specs.Chains.{Holds}
 use Rattle.network.specs.Counting.{keep, has, without, EachOnce}

@@ -1,6 +1,6 @@
 -- The working entries of an ordering, read by column: what stands at y in a column belongs to the entry with number y.
 use Rattle.std.specs.Prelude.{◌≡◌, ℕ, ◌+◌, ◌-◌, ◌*◌, cond, List, Option, ◌==◌, slice_index, slice_set}
-use Rattle.linked_list.specs.declared.position.Position.{Position}
+use Rattle.linked_list.specs.Places.{Position}
 
 pub record Columns : Type 0 where
   -- where each entry stands in the list of its class

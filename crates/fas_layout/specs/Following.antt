@@ -2,8 +2,9 @@
 use Rattle.std.specs.Prelude.{◌≡◌, ℕ, suc, ◌+◌, ◌-◌, ◌<◌, ◌≤◌, true, cond, List, [], ◌∷◌, length, Some, None, Option, ◌==◌, nat_lt, slice_index, slice_index_or}
 use Rattle.network.specs.Counting.{one, has}
 use Rattle.greedy_order.specs.Part3Order.{to_front, all_to_front}
-use Rattle.fas_layout.specs.declared.direction.Direction.{Direction}
-use Rattle.fas_layout.specs.declared.direction.Direction.TheVariants.{Outgoing, Incoming}
+use Rattle.network.specs.Directions.{opposite}
+use Rattle.network.specs.declared.direction.CompactDirection.{CompactDirection}
+use Rattle.network.specs.declared.direction.CompactDirection.TheVariants.{Outgoing, Incoming}
 use Rattle.fas_layout.specs.Columns.{Columns, Neighbours, SameLinks}
 use Rattle.fas_layout.specs.Classes.{Sorted}
 
@@ -39,28 +40,24 @@ pub record Lowering (P : Neighbours) (all untaken₀ : List ℕ) (at : Option �
   pub comes : all_to_front left untaken ≡ all_to_front all untaken₀
   pub falls : (z : ℕ) → has untaken₀ z ≡ true → slice_index are z - occurrences left z ≡ slice_index were z - occurrences all z
 
-abbrev pub degrees : Direction → Columns → List ℕ
+abbrev pub degrees : CompactDirection → Columns → List ℕ
 degrees Outgoing t = t.out_degrees
 degrees Incoming t = t.in_degrees
 
 -- where the lists of neighbours begin
-abbrev pub firsts : Direction → Columns → List (Option ℕ)
+abbrev pub firsts : CompactDirection → Columns → List (Option ℕ)
 firsts Outgoing t = t.first_outs
 firsts Incoming t = t.first_ins
 
-abbrev pub opposite : Direction → Direction
-opposite Outgoing = Incoming
-opposite Incoming = Outgoing
-
 -- the node y, if it is not taken, has lost an arc, and stands at the front of its class
-pub record LostOne (d : Direction) (m : ℕ) (t : Columns) (s : List (Option ℕ)) (t' : Columns) (s' : List (Option ℕ)) (y : ℕ) : Type 0 where
+pub record LostOne (d : CompactDirection) (m : ℕ) (t : Columns) (s : List (Option ℕ)) (t' : Columns) (s' : List (Option ℕ)) (y : ℕ) : Type 0 where
   pub sorted : (untaken : List ℕ) → Sorted m t s untaken → Sorted m t' s' (to_front y untaken)
   pub falls : (untaken : List ℕ) → Sorted m t s untaken → (z : ℕ) → has untaken z ≡ true → slice_index (degrees d t') z ≡ slice_index (degrees d t) z - one (y == z)
   pub other : degrees (opposite d) t' ≡ degrees (opposite d) t
   pub links : SameLinks t' t
 
 -- so have the neighbours from the place at on, one after the other
-pub record LostAll (d : Direction) (m : ℕ) (P : Neighbours) (t : Columns) (s : List (Option ℕ)) (t' : Columns) (s' : List (Option ℕ)) (at : Option ℕ) : Type 0 where
+pub record LostAll (d : CompactDirection) (m : ℕ) (P : Neighbours) (t : Columns) (s : List (Option ℕ)) (t' : Columns) (s' : List (Option ℕ)) (at : Option ℕ) : Type 0 where
   pub sorted : (all untaken : List ℕ) → Follows P 0 at all → Sorted m t s untaken → Sorted m t' s' (all_to_front all untaken)
   pub falls : (all untaken : List ℕ) → Follows P 0 at all → Sorted m t s untaken → (z : ℕ) → has untaken z ≡ true → slice_index (degrees d t') z ≡ slice_index (degrees d t) z - occurrences all z
   pub other : degrees (opposite d) t' ≡ degrees (opposite d) t

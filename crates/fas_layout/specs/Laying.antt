@@ -4,8 +4,9 @@ use Rattle.network.specs.Counting.{count}
 use Rattle.network.specs.Network.{Link, meet_all}
 use Rattle.greedy_order.specs.Part3Order.{out_neighbours, in_neighbours}
 use Rattle.fas_layout.specs.Columns.{Columns, Neighbours}
-use Rattle.fas_layout.specs.declared.direction.Direction.{Direction}
-use Rattle.fas_layout.specs.Following.{Follows, degrees, firsts, opposite}
+use Rattle.network.specs.declared.direction.CompactDirection.{CompactDirection}
+use Rattle.network.specs.Directions.{opposite}
+use Rattle.fas_layout.specs.Following.{Follows, degrees, firsts}
 
 -- the entry numbers below n, the last first
 abbrev pub down : ℕ → List ℕ
@@ -49,7 +50,7 @@ pub record Laid (P : Neighbours) (t : Columns) (n lo : ℕ) (arcs : List Link) :
   pub ins : (z : ℕ) → z < n → slice_index t.in_degrees z ≡ coming arcs z
 
 -- the entry x has one arc more, whose neighbour stands at the place p
-pub record Led (d : Direction) (t t' : Columns) (x p : ℕ) : Type 0 where
+pub record Led (d : CompactDirection) (t t' : Columns) (x p : ℕ) : Type 0 where
   pub positions : t'.positions ≡ t.positions
   pub begins : firsts d t' ≡ slice_set (firsts d t) x (Some p)
   pub rises : degrees d t' ≡ slice_set (degrees d t) x (slice_index (degrees d t) x + 1)

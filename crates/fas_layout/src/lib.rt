@@ -1,7 +1,3 @@
 // What the working tables of an ordering stand for, as mathematics over plain lists.
 
 #![tactic(auto)]
-
-pub mod direction;
-
-pub use direction::Direction;

@@ -39,9 +39,13 @@ place_of (EndUnlisted place) = place
 place_of (ArcRepeated place) = place
 place_of LaneRange = 0
 
--- the bytes of the line `refused N at P`, which byte 10 ends
+-- the bytes of `refused N at P`
+unfoldable pub refusal_text : Fault → List ℕ
+refusal_text fault = codes "refused " ++ (digits (number_of fault) ++ (codes " at " ++ digits (place_of fault)))
+
+-- the line of it, which byte 10 ends
 unfoldable pub refusal_line : Fault → List ℕ
-refusal_line fault = codes "refused " ++ (digits (number_of fault) ++ (codes " at " ++ (digits (place_of fault) ++ (10 ∷ []))))
+refusal_line fault = refusal_text fault ++ (10 ∷ [])
 
 -- a refusal for want of room in an output, else the length of what was put there
 abbrev pub length_if_room : List ℕ → List ℕ → Result ℕ Fault

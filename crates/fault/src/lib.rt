@@ -2,12 +2,15 @@
 
 #![tactic(auto)]
 
-ghost use Rattle.std.specs.Prelude.{◌≡◌, ◌+◌, ◌≤◌, length};
-ghost use Rattle.decimal.specs.Digits.{digits};
+ghost use Rattle.std.specs.Prelude.{◌≡◌, ◌≤◌, length, Some};
+ghost use Rattle.arrayvec.specs.ArrayString.{array_string_len};
 ghost use Rattle.decimal.specs.Outputs.{put_at};
-ghost use Rattle.fault.specs.Faults.{number_of, place_of, refusal_line, length_if_room};
+ghost use Rattle.fault.specs.Faults.{number_of, place_of, refusal_text, refusal_line, length_if_room};
 
-use decimal::write_decimal;
+use arrayvec::ArrayString;
+use itoa::Buffer;
+use std::error::Error;
+use std::fmt;
 
 /// Why a call was refused. A case holds its place where it has one.
 #[derive(Clone, Copy, PartialEq, Eq, Debug)]
@@ -65,6 +68,7 @@ impl Fault {
         }
     }
 
+    // Each case is named, so that a new one is not passed over.
     /// The place that the cause concerns, or 0 where it concerns none.
     pub fn place(&self) -> u32
         ensures { result ≡ place_of self.now }
@@ -86,56 +90,50 @@ impl Fault {
             | Fault::LaneRange => 0,
         }
     }
+
+    // `refused N at P`, the refusal line without its end.
+    fn text(&self) -> ArrayString<REFUSAL_ROOM>
+        ensures text { result.bytes ≡ refusal_text self.now }
+        ensures short { array_string_len result ≤ 32 }
+    {
+        let mut buffer = Buffer::new();
+        let mut text = ArrayString::new();
+        text.push_str("refused ");
+        text.push_str(buffer.format(self.number()));
+        text.push_str(" at ");
+        text.push_str(buffer.format(self.place()));
+        text
+    }
 }
 
-/// Bytes that hold every refusal line: its words, and ten digits for each of the two numbers.
+/// Bytes that hold every refusal line: its words, ten digits for each of the two numbers, and byte 10.
 pub const REFUSAL_ROOM: usize = 33;
 
-// Puts `text` into `line` from `at` on.
-fn put_text(line: &mut [u8], at: usize, text: &[u8])
-    requires { at + length text.now ≤ length line.old }
-    ensures { line.new ≡ put_at line.old at text.now }
-{
-    line[at..at + text.len()].copy_from_slice(text);
+/// `refused N at P`, with the number and the place of the fault.
+impl fmt::Display for Fault {
+    ghost output = { λ fault. Some (refusal_text fault) };
+
+    fn fmt<W: fmt::Write>(&self, f: &mut fmt::Formatter<W>) -> fmt::Result {
+        f.write_str(self.text().as_str())
+    }
 }
 
-// Puts `n` into `line` from `at` on, and answers how many digits it has.
-fn put_number(line: &mut [u8], at: usize, n: u32) -> usize
-    requires { at + 10 ≤ length line.old }
-    ensures len { result ≡ length (digits n) }
-    ensures short { result ≤ 10 }
-    ensures bytes { line.new ≡ put_at line.old at (digits n) }
-{
-    write_decimal(line, at, n).unwrap()
-}
-
-// Puts the refusal line of `fault` at the start of `line`, and answers its length.
-fn put_refusal(fault: Fault, line: &mut [u8]) -> usize
-    requires { 33 ≤ length line.old }
-    ensures len { result ≡ length (refusal_line fault) }
-    ensures short { result ≤ 33 }
-    ensures bytes { line.new ≡ put_at line.old 0 (refusal_line fault) }
-{
-    put_text(line, 0, b"refused ");
-    let number = put_number(line, 8, fault.number());
-    put_text(line, 8 + number, b" at ");
-    let place = put_number(line, 12 + number, fault.place());
-    put_text(line, 12 + number + place, b"\n");
-    13 + number + place
-}
+impl Error for Fault {}
 
 /// Writes the line `refused N at P`, with the number and the place of `fault` and byte 10 at its end, at the start of
 /// `out`, and answers its length. Where it does not fit the answer is `OutputShort`, and nothing is written.
+#[tactic(auto, unfolding(crate::specs::Faults::refusal_line))]
 pub fn write_refusal(fault: Fault, out: &mut [u8]) -> Result<usize, Fault>
     ensures answer { result ≡ length_if_room out.old (refusal_line fault) }
     ensures output { out.new ≡ put_at out.old 0 (refusal_line fault) }
     ensures short { length (refusal_line fault) ≤ 33 }
 {
-    let mut line = [0; REFUSAL_ROOM];
-    let length = put_refusal(fault, &mut line);
+    let mut line = fault.text();
+    line.push('\n');
+    let length = line.len();
     if length > out.len() {
         return Err(Fault::OutputShort);
     }
-    put_text(out, 0, &line[0..length]);
+    out[..length].copy_from_slice(line.as_str().as_bytes());
     Ok(length)
 }

@@ -1,5 +1,5 @@
 -- From the ordered entries to the places of the nodes.
-use Rattle.std.proofs.Common.{◌≡◌, ℕ, List, map, length, get_or, sym, ap, ◌∙◌, subst, arith}
+use Rattle.std.proofs.Common.{◌≡◌, ℕ, List, map, length, get_or, Some, None, Option, MatchOption, sym, ap, ◌∙◌, subst, arith}
 use Rattle.std.proofs.lemmas.List.{length-map}
 use Rattle.keys.specs.declared.node_index.NodeIndex.{NodeIndex}
 use Rattle.keyed_table.specs.declared.slots.Item.{Item}
@@ -17,6 +17,11 @@ use Rattle.feedback_arc_set.specs.Containers.{met_of, columns}
 use Rattle.feedback_arc_set.specs.Orders.{order_in, Placed}
 use Rattle.feedback_arc_set.specs.Steps.{Ranked}
 use Rattle.feedback_arc_set.proofs.Reading.{map_map}
+
+-- what is known of an answer, in other words in either case
+pub matched : {X P Q : Type 0} {R S : X → Type 0} (o : Option X) → (P → Q) → ((x : X) → R x → S x) → MatchOption o P R → MatchOption o Q S
+matched None f g h = f h
+matched (Some x) f g h = g x h
 
 pub order_long : (network : List Link) → length (greedy_order network) ≡ length (touched network)
 order_long network = greedy_length (the_order_is_greedy network) (touched_once network)

@@ -1,8 +1,7 @@
 -- Nodes at places of an order, and the places of nodes.
-use Rattle.std.proofs.Common.{◌≡◌, ℕ, zero, suc, ◌<◌, ◌≤◌, Bool, true, false, cond, ◌&&◌, ◌||◌, eqb, leb, ◌⊎◌, List, [], ◌∷◌, map, length, get_or, take, Some, None, sym, refl, ap, ◌∙◌, inl, inr, ⊎_elim, arith}
-use Rattle.std.specs.List.{slice_get}
+use Rattle.std.proofs.Common.{◌≡◌, ℕ, zero, suc, ◌<◌, ◌≤◌, Bool, true, false, cond, ◌&&◌, ◌||◌, eqb, leb, ◌⊎◌, List, [], ◌∷◌, map, length, get_or, take, Some, None, MatchOption, sym, refl, ap, ◌∙◌, inl, inr, ⊎_elim, arith}
+use Rattle.std.specs.Option.{option_zip}
 use Rattle.std.proofs.lemmas.List.{length-map, length-take-le}
-use Rattle.std.proofs.lemmas.Option.{slice_get_past}
 use Rattle.std.proofs.lemmas.Bool.{eqb-true, eq-eqb, true≢false}
 use Rattle.keys.specs.declared.node_index.NodeIndex.{NodeIndex}
 use Rattle.keyed_table.specs.declared.slots.Item.{Item}
@@ -16,20 +15,6 @@ use Rattle.feedback_arc_set.specs.Cursors.{placed_and_held}
 
 pub order_long : (xs : List NodeIndex) (n : ℕ) → n ≤ length xs → length (order_in xs n) ≡ n
 order_long xs n b = length-map (take n xs) (λ k. k.value) ∙ length-take-le n xs b
-
-pub index_read : (xs : List NodeIndex) (i : ℕ) (k : NodeIndex) → i < length xs → k ≡ get_or xs i k → Some k.value ≡ slice_get (map (λ k. k.value) xs) i
-index_read [] i k b e = absurd (omega arith)
-index_read (x ∷ xs) zero k b e = ap (λ v. Some v.value) e
-index_read (x ∷ xs) (suc i) k b e = index_read xs i k (omega arith) e
-
-pub index_past : (xs : List NodeIndex) (i : ℕ) → length xs ≤ i → None ≡ slice_get (map (λ k. k.value) xs) i
-index_past xs i b = sym (slice_get_past (map (λ k. k.value) xs) i (let e = length-map xs (λ k. k.value) in omega arith))
-
-pub index_taken : (xs : List NodeIndex) (n i : ℕ) → i < n → slice_get (map (λ k. k.value) xs) i ≡ slice_get (order_in xs n) i
-index_taken [] (suc n) i b = refl
-index_taken (x ∷ xs) (suc n) zero b = refl
-index_taken (x ∷ xs) (suc n) (suc i) b = index_taken xs n i (omega arith)
-index_taken xs zero i b = absurd (omega arith)
 
 pub place_at : (order : List ℕ) (p : ℕ) → EachOnce order → p < length order → place order (get_or order p 0) ≡ p
 place_at [] p o b = absurd (omega arith)
@@ -95,19 +80,12 @@ place_found k l order p = ⊎_elim
     (λ (s : Missing k l). s.value ∙ ap (λ t. cond t (Some (place order k)) None) (sym (p.listed k ∙ s.there)))
     (looked k l)
 
--- a node with a place is listed there
-placed_listed : (order : List ℕ) (x p : ℕ) → Some p ≡ place_in order x → (has order x ≡ true) × (place order x ≡ p)
-placed_listed order x p e = go (has order x) refl e
-  where
-    go : (b : Bool) → has order x ≡ b → Some p ≡ cond b (Some (place order x)) None → (has order x ≡ true) × (place order x ≡ p)
-    go true h f = let q : place order x ≡ p = cc in (h, q)
-    go false h f = absurd (let z : ◌≡◌ {A = ℕ} 0 1 = cc in omega arith)
-
--- the places of an arc's ends tell whether it is held
-pub both_held : (order : List ℕ) (x y p q : ℕ) → Some p ≡ place_in order x → Some q ≡ place_in order y → leb q p ≡ placed_and_held order (x, y)
+-- the places of an arc's ends, or the lack of one, tell whether the arc is held
+pub told_held : (order : List ℕ) (x y : ℕ) (r : Bool) → MatchOption (option_zip (place_in order x) (place_in order y)) (r ≡ false) (λ v. r ≡ leb v.1 v.0) → r ≡ placed_and_held order (x, y)
 unfolding held
-both_held order x y p q e f =
-    let a = placed_listed order x p e in
-    let b = placed_listed order y q f in
-    ap (λ t. leb t p) (sym b.1) ∙ ap (leb (place order y)) (sym a.1)
-    ∙ ap (λ t. t && leb (place order y) (place order x)) (sym (ap (λ t. t && has order y) a.0 ∙ b.0))
+told_held order x y r h = go (has order x) (has order y) h
+  where
+    go : (a b : Bool) → MatchOption (option_zip (cond a (Some (place order x)) None) (cond b (Some (place order y)) None)) (r ≡ false) (λ v. r ≡ leb v.1 v.0) → r ≡ ((a && b) && leb (place order y) (place order x))
+    go true true h = h
+    go true false h = h
+    go false b h = h

@@ -1,9 +1,7 @@
 -- What the working entries stand for.
-use Rattle.std.specs.Prelude.{◌≡◌, ℕ, List, map, length, Some, None, Option, slice_index_or}
+use Rattle.std.specs.Prelude.{◌≡◌, ℕ, List, map, length, slice_index_or, None}
 use Rattle.keys.specs.declared.node_index.NodeIndex.{NodeIndex}
-use Rattle.keyed_table.specs.declared.slots.Item.{Item}
 use Rattle.keyed_table.specs.Tables.{listing, places}
-use Rattle.linked_list.specs.declared.position.Position.TheVariants.{Free}
 use Rattle.network.specs.Network.{meet}
 use Rattle.fas_layout.specs.Columns.{Columns}
 use Rattle.fas_layout.specs.Laying.{Names}
@@ -41,7 +39,7 @@ pub record SameNames (a b : FasNodeContainer) : Type 0 where
 
 -- an entry but for its position
 abbrev pub unlisted : FasNode → FasNode
-unlisted n = record { position = Free; out_degree = n.out_degree; in_degree = n.in_degree; first_out = n.first_out; first_in = n.first_in; place = n.place }
+unlisted n = record { position = None; out_degree = n.out_degree; in_degree = n.in_degree; first_out = n.first_out; first_in = n.first_in; place = n.place }
 
 -- all but the positions
 abbrev pub Unlisted : Type 0
@@ -49,14 +47,6 @@ Unlisted = ℕ × List ℕ × List NodeIndex × List FasNode
 
 abbrev pub unlisted_of : FasNodeContainer → Unlisted
 unlisted_of c = (slots_of c, met_of c, keys_of c, map unlisted (nodes_of c))
-
-abbrev pub value_or_blank : Option (Item NodeIndex FasNode) → FasNode
-value_or_blank None = blank_node
-value_or_blank (Some i) = i.value
-
-abbrev pub key_or_blank : Option (Item NodeIndex FasNode) → NodeIndex
-key_or_blank None = blank_key
-key_or_blank (Some i) = i.key
 
 -- no entry has arcs or a class yet
 abbrev pub AllBlank : FasNodeContainer → Type 0

@@ -3,16 +3,15 @@ use Rattle.std.specs.Prelude.{◌≡◌, ℕ, ◌+◌, ◌-◌, ◌≤◌, List,
 use Rattle.std.proofs.Common.{lit<}
 use Rattle.keys.specs.declared.fas_node_index.FasNodeIndex.{FasNodeIndex}
 use Rattle.keys.specs.declared.node_index.NodeIndex.{NodeIndex}
-use Rattle.linked_list.specs.declared.position.Position.TheVariants.{Free}
-use Rattle.fas_layout.specs.declared.direction.Direction.{Direction}
-use Rattle.fas_layout.specs.declared.direction.Direction.TheVariants.{Outgoing, Incoming}
+use Rattle.network.specs.declared.direction.CompactDirection.{CompactDirection}
+use Rattle.network.specs.declared.direction.CompactDirection.TheVariants.{Outgoing, Incoming}
 use Rattle.fas_layout.specs.Columns.{Columns, Neighbours}
 use Rattle.feedback_arc_set.specs.declared.fas_node.FasNode.{FasNode}
 use Rattle.feedback_arc_set.specs.declared.places.NeighbourPlace.{NeighbourPlace}
 use Rattle.feedback_arc_set.specs.declared.places.ClassPlace.{ClassPlace}
 
 abbrev pub blank_node : FasNode
-blank_node = record { position = Free; out_degree = 0; in_degree = 0; first_out = None; first_in = None; place = 0 }
+blank_node = record { position = None; out_degree = 0; in_degree = 0; first_out = None; first_in = None; place = 0 }
 
 abbrev pub blank_index : FasNodeIndex
 blank_index = record { value = 0; small = lit< tt }
@@ -57,21 +56,21 @@ SameButAt before after p = (k : ℕ) → (k ≢ p) → slice_index_or after k bl
 abbrev pub starts_of : List ClassPlace → List (Option ℕ)
 starts_of classes = map (λ c. c.list.start) classes
 
-abbrev pub degree_of : Direction → FasNode → ℕ
+abbrev pub degree_of : CompactDirection → FasNode → ℕ
 degree_of Outgoing n = n.out_degree
 degree_of Incoming n = n.in_degree
 
-abbrev pub first_of : Direction → FasNode → Option ℕ
+abbrev pub first_of : CompactDirection → FasNode → Option ℕ
 first_of Outgoing n = n.first_out
 first_of Incoming n = n.first_in
 
 -- an entry with one arc less
-abbrev pub lowered_node : Direction → FasNode → FasNode
+abbrev pub lowered_node : CompactDirection → FasNode → FasNode
 lowered_node Outgoing n = record { position = n.position; out_degree = n.out_degree - 1; in_degree = n.in_degree; first_out = n.first_out; first_in = n.first_in; place = n.place }
 lowered_node Incoming n = record { position = n.position; out_degree = n.out_degree; in_degree = n.in_degree - 1; first_out = n.first_out; first_in = n.first_in; place = n.place }
 
 -- an entry with one arc more, whose neighbour stands at the neighbour place p
-abbrev pub led_node : Direction → ℕ → FasNode → FasNode
+abbrev pub led_node : CompactDirection → ℕ → FasNode → FasNode
 led_node Outgoing p n = record { position = n.position; out_degree = n.out_degree + 1; in_degree = n.in_degree; first_out = Some p; first_in = n.first_in; place = n.place }
 led_node Incoming p n = record { position = n.position; out_degree = n.out_degree; in_degree = n.in_degree + 1; first_out = n.first_out; first_in = Some p; place = n.place }
 

@@ -16,7 +16,7 @@ use Rattle.feedback_arc_set.specs.Nodes.{blank_neighbour, blank_class}
 
 -- the lent places as they stand
 abbrev pub entry_places : WorkTables → List (Slot NodeIndex FasNode)
-entry_places t = places t.entries
+entry_places t = places t.nodes.table
 
 abbrev pub neighbour_places : WorkTables → List NeighbourPlace
 neighbour_places t = t.neighbours.now
@@ -57,10 +57,10 @@ pub record Granted (network : List Link) (a b : WorkTables) (n : ℕ) : Type 0 w
   pub order : order_in (order_places b) n ≡ greedy_order network
   pub rest : drop n (order_places b) ≡ drop n (order_places a)
   pub long : length (order_places b) ≡ length (order_places a)
-  pub placed : Placed (listing b.entries) (order_in (order_places b) n)
+  pub placed : Placed (listing b.nodes.table) (order_in (order_places b) n)
 
 -- the tables b hold no order: every entry place is blank, and the order places are as in a
 pub record Emptied (a b : WorkTables) : Type 0 where
-  pub none : listing b.entries ≡ []
+  pub none : listing b.nodes.table ≡ []
   pub blank : entry_places b ≡ replicate (length (entry_places a)) blank_slot
   pub order : order_places b ≡ order_places a

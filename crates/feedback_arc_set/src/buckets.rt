@@ -11,10 +11,11 @@ ghost use Rattle.network.specs.Counting.{has, without};
 
 use crate::container::FasNodeContainer;
 use crate::neighbours::{next_at, node_at};
-use crate::places::{ClassPlace, NeighbourPlace};
-use fas_layout::Direction;
+use crate::places::{ClassPlace, NeighbourPlace, put};
 use keys::FasNodeIndex;
 use linked_list::list::LinkedList;
+use linked_list::walk::is_in_list;
+use network::CompactDirection;
 
 // The nodes that are not taken, listed by class: sinks in class 0, source nodes in class 2m for m arcs, any other node
 // in the class of its difference, out-degree less in-degree, and m.
@@ -41,19 +42,15 @@ fn class_of(arcs: u32, out_degree: u32, in_degree: u32) -> usize
 fn list_at(places: &[ClassPlace], class: usize) -> LinkedList
     ensures { result.start ≡ slice_index_or (starts_of places.now) class None }
 {
-    if class < places.len() {
-        places[class].list
-    } else {
-        LinkedList::new()
-    }
+    places
+        .get(class)
+        .map_or(LinkedList::new(), |place| place.list)
 }
 
 fn set_list(places: &mut [ClassPlace], class: usize, list: LinkedList)
     ensures { starts_of places.new ≡ slice_set (starts_of places.old) class list.start }
 {
-    if class < places.len() {
-        places[class] = ClassPlace { list };
-    }
+    put(places, class, ClassPlace { list });
 }
 
 // Puts the entry to the front of a class.
@@ -146,12 +143,17 @@ impl<'b> Buckets<'b> {
     }
 
     // An entry that is not taken loses an arc and goes to the front of its class, be it the same one.
-    fn lower(&mut self, nodes: &mut FasNodeContainer<'_>, ix: FasNodeIndex, direction: Direction)
+    fn lower(
+        &mut self,
+        nodes: &mut FasNodeContainer<'_>,
+        ix: FasNodeIndex,
+        direction: CompactDirection,
+    )
         ensures lost { LostOne direction self.old.arcs (columns nodes.old) (starts self.old) (columns nodes.new) (starts self.new) ix.value }
         ensures names { SameNames nodes.new nodes.old }
         ensures sizes { SameSizes self.new self.old }
     {
-        if !nodes.node(ix).is_listed() {
+        if !is_in_list(nodes, ix.get()) {
             return;
         }
         let class = self.suitable_bucket(nodes, ix);
@@ -162,13 +164,14 @@ impl<'b> Buckets<'b> {
         self.push_front(nodes, class, ix);
     }
 
+    // Places rise along the list, so the walk ends; `successors` has no end that a proof can see.
     // The neighbours from the place `from` on lose an arc each.
     fn lower_all(
         &mut self,
         nodes: &mut FasNodeContainer<'_>,
         neighbours: &[NeighbourPlace],
         from: Option<u32>,
-        direction: Direction,
+        direction: CompactDirection,
     )
         ensures lost { LostAll direction self.old.arcs (neighbours_of neighbours.now) (columns nodes.old) (starts self.old) (columns nodes.new) (starts self.new) from }
         ensures names { SameNames nodes.new nodes.old }
@@ -193,8 +196,13 @@ impl<'b> Buckets<'b> {
         ensures sizes { SameSizes self.new self.old }
     {
         let node = nodes.node(ix);
-        self.lower_all(nodes, neighbours, node.first_out, Direction::Incoming);
-        self.lower_all(nodes, neighbours, node.first_in, Direction::Outgoing);
+        self.lower_all(
+            nodes,
+            neighbours,
+            node.first_out,
+            CompactDirection::Incoming,
+        );
+        self.lower_all(nodes, neighbours, node.first_in, CompactDirection::Outgoing);
     }
 
     // The class of the source nodes.
@@ -204,6 +212,7 @@ impl<'b> Buckets<'b> {
         2 * (self.arcs as usize)
     }
 
+    // A loop that yields the class by `break`, as in petgraph.
     // The highest class that has a member, from `top` down; 0 where none has.
     pub(crate) fn best_class(&self) -> usize
         ensures above { (k : ℕ) → result < k → k ≤ self.now.top → slice_index_or (starts self.now) k None ≡ None }
@@ -233,9 +242,7 @@ impl<'b> Buckets<'b> {
         if room == 0 {
             return None;
         }
-        let Some(taken) = self.pop(nodes, class) else {
-            return None;
-        };
+        let taken = self.pop(nodes, class)?;
         self.top = lifted(self.arcs, self.top, nodes.node(taken).out_degree);
         self.update_neighbour_node_buckets(nodes, neighbours, taken);
         Some(taken)

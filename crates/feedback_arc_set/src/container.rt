@@ -1,5 +1,3 @@
-ghost use Rattle.keyed_table.specs.Tables.{Intact};
-
 use crate::fas_node::FasNode;
 use keyed_table::KeyedTable;
 use keys::NodeIndex;
@@ -10,5 +8,4 @@ pub(crate) mod calls;
 #[derive(Drop)]
 pub(crate) struct FasNodeContainer<'w> {
     pub(crate) table: KeyedTable<'w, NodeIndex, FasNode>,
-    ghost intact: { Intact table },
 }

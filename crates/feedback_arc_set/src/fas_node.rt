@@ -1,15 +1,14 @@
 ghost use Rattle.std.specs.Prelude.{◌≡◌, ◌+◌, ◌^◌, ◌<◌, Some};
 ghost use Rattle.feedback_arc_set.specs.Nodes.{blank_node, degree_of, first_of, lowered_node, led_node, placed_node};
-ghost use Rattle.linked_list.specs.Places.{is_in};
 
-use fas_layout::Direction;
-use linked_list::position::Position;
+use linked_list::position::LinkedListPosition;
+use network::CompactDirection;
 
 /// The working entry of a node.
 #[derive(Clone, Copy)]
 pub struct FasNode {
     // where it stands in the list of its class; free once taken
-    pub(crate) position: Position,
+    pub(crate) position: Option<LinkedListPosition>,
     // the degrees among the nodes that are not taken
     pub(crate) out_degree: u32,
     pub(crate) in_degree: u32,
@@ -26,7 +25,7 @@ impl FasNode {
         ensures { result ≡ blank_node }
     {
         FasNode {
-            position: Position::Free,
+            position: None,
             out_degree: 0,
             in_degree: 0,
             first_out: None,
@@ -35,26 +34,16 @@ impl FasNode {
         }
     }
 
-    // Whether it stands in the list of a class: it is not taken.
-    pub(crate) fn is_listed(self) -> bool
-        ensures { result ≡ is_in self.position }
-    {
-        match self.position {
-            Position::Free => false,
-            Position::In { prev: _, next: _ } => true,
-        }
-    }
-
     // The entry with one arc less.
-    pub(crate) fn lowered(self, direction: Direction) -> FasNode
+    pub(crate) fn lowered(self, direction: CompactDirection) -> FasNode
         ensures { result ≡ lowered_node direction self }
     {
         match direction {
-            Direction::Outgoing => FasNode {
+            CompactDirection::Outgoing => FasNode {
                 out_degree: self.out_degree.saturating_sub(1),
                 ..self
             },
-            Direction::Incoming => FasNode {
+            CompactDirection::Incoming => FasNode {
                 in_degree: self.in_degree.saturating_sub(1),
                 ..self
             },
@@ -62,27 +51,27 @@ impl FasNode {
     }
 
     // Where the list of its neighbours begins.
-    pub(crate) fn first(self, direction: Direction) -> Option<u32>
+    pub(crate) fn first(self, direction: CompactDirection) -> Option<u32>
         ensures { result ≡ first_of direction self }
     {
         match direction {
-            Direction::Outgoing => self.first_out,
-            Direction::Incoming => self.first_in,
+            CompactDirection::Outgoing => self.first_out,
+            CompactDirection::Incoming => self.first_in,
         }
     }
 
     // The entry with one arc more, whose neighbour stands at `place`.
-    pub(crate) fn led(self, direction: Direction, place: u32) -> FasNode
+    pub(crate) fn led(self, direction: CompactDirection, place: u32) -> FasNode
         requires { degree_of direction self + 1 < 2 ^ 32 }
         ensures { result ≡ led_node direction place self }
     {
         match direction {
-            Direction::Outgoing => FasNode {
+            CompactDirection::Outgoing => FasNode {
                 out_degree: self.out_degree + 1,
                 first_out: Some(place),
                 ..self
             },
-            Direction::Incoming => FasNode {
+            CompactDirection::Incoming => FasNode {
                 in_degree: self.in_degree + 1,
                 first_in: Some(place),
                 ..self

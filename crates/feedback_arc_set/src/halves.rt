@@ -4,6 +4,7 @@ ghost use Rattle.feedback_arc_set.specs.Containers.{columns, key_in, SameNames};
 ghost use Rattle.feedback_arc_set.specs.Listed.{order_places};
 
 use crate::container::FasNodeContainer;
+use crate::places::put;
 use keys::{FasNodeIndex, NodeIndex};
 
 // The order as it is made: the head half lies before `front` and grows at its back, the tail half lies from `back` on
@@ -15,21 +16,13 @@ pub(crate) struct Halves<'o> {
     pub(crate) back: u32,
 }
 
-fn put(places: &mut [NodeIndex], p: u32, key: NodeIndex)
-    ensures { places.new ≡ slice_set places.old p key }
-{
-    if (p as usize) < places.len() {
-        places[p as usize] = key;
-    }
-}
-
 // Puts the node of an entry at the place `p`, and the place into the entry.
 fn put_node(places: &mut [NodeIndex], nodes: &mut FasNodeContainer<'_>, p: u32, ix: FasNodeIndex)
     ensures order { places.new ≡ slice_set places.old p (key_in nodes.old ix.value) }
     ensures written { PlaceWritten (columns nodes.new) (columns nodes.old) ix.value p }
     ensures names { SameNames nodes.new nodes.old }
 {
-    put(places, p, nodes.key(ix));
+    put(places, p as usize, nodes.key(ix));
     nodes.set_place(ix, p);
 }
 
@@ -41,6 +34,7 @@ impl<'o> Halves<'o> {
         self.back.saturating_sub(self.front)
     }
 
+    // Not one function with `push_tail`: three of its six clauses would be by cases.
     // Puts the node of an entry to the back of the head half.
     pub(crate) fn push_head(&mut self, nodes: &mut FasNodeContainer<'_>, ix: FasNodeIndex)
         requires { self.old.front < self.old.back }

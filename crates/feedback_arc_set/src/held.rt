@@ -1,11 +1,11 @@
 ghost use Rattle.std.specs.Prelude.{◌≡◌, length};
-ghost use Rattle.feedback_arc_set.specs.Cursors.{both_placed, first_held, first_unplaced, opened, placed_and_held, position_after, shown};
+ghost use Rattle.feedback_arc_set.specs.Cursors.{both_placed, first_held, first_unplaced, link, opened, position_after, shown, shows};
 ghost use Rattle.feedback_arc_set.specs.Verdicts.{order_of};
 
 use crate::ordering::Ordering;
 use fault::Fault;
-use keys::{NodeIndex, NodeKey};
-use network::{Arc, ArcSource};
+use keys::NodeKey;
+use network::{Arc, ArcSource, Arcs};
 
 /// An arc that an order holds, and its position in the source.
 #[derive(Clone, Copy)]
@@ -15,7 +15,7 @@ pub struct HeldArc<N, E> {
 }
 
 /// A cursor of an order, which shows the held arcs of a source in its sequence.
-#[derive(Drop)]
+#[derive(Clone, Copy)]
 pub struct HeldArcs<'o, 'w> {
     ordering: &'o Ordering<'w>,
     position: u32,
@@ -23,20 +23,20 @@ pub struct HeldArcs<'o, 'w> {
 
 impl<'w> Ordering<'w> {
     // Whether both ends of an arc have a place.
-    fn places_both(&self, source: NodeIndex, target: NodeIndex) -> bool
-        ensures { result ≡ both_placed (order_of self.now) (source.value, target.value) }
+    fn places_both<N: NodeKey, E: Copy>(&self, arc: &Arc<N, E>) -> bool
+        ensures { result ≡ both_placed (order_of self.now) (link N.NodeKey.index arc.now) }
     {
-        self.place(source).is_some() && self.place(target).is_some()
+        self.place(arc.source.node_index()).is_some()
+            && self.place(arc.target.node_index()).is_some()
     }
 
     // Whether both ends of an arc have a place, and the source's is not before the target's.
-    fn holds(&self, source: NodeIndex, target: NodeIndex) -> bool
-        ensures { result ≡ placed_and_held (order_of self.now) (source.value, target.value) }
+    fn holds<N: NodeKey, E: Copy>(&self, arc: &Arc<N, E>) -> bool
+        ensures { result ≡ shows N.NodeKey.index (order_of self.now) arc.now }
     {
-        match (self.place(source), self.place(target)) {
-            (Some(from), Some(to)) => from >= to,
-            _ => false,
-        }
+        self.place(arc.source.node_index())
+            .zip(self.place(arc.target.node_index()))
+            .is_some_and(|(from, to)| from >= to)
     }
 
     /// A cursor of the held arcs of a source, before its first arc. `EndUnplaced` names the first arc with an end that
@@ -44,21 +44,18 @@ impl<'w> Ordering<'w> {
     pub fn held<S: ArcSource>(&self, source: &S) -> Result<HeldArcs<'_, 'w>, Fault>
         ensures { result ≡ opened self.entry (first_unplaced S.Node.index (order_of self.now) (S.ArcSource.arcs source.now)) }
     {
-        for position in 0..source.arc_count() {
-            if let Some(arc) = source.arc_at(position) {
-                if !self.places_both(arc.source.node_index(), arc.target.node_index()) {
-                    return Err(Fault::EndUnplaced(position));
-                }
-            }
+        match Arcs::new(source).position(|arc| !self.places_both(&arc)) {
+            Some(position) => Err(Fault::EndUnplaced(position as u32)),
+            None => Ok(HeldArcs {
+                ordering: self,
+                position: 0,
+            }),
         }
-        Ok(HeldArcs {
-            ordering: self,
-            position: 0,
-        })
     }
 }
 
 impl<'o, 'w> HeldArcs<'o, 'w> {
+    // It is lent the source at each step, and goes on from its own position: so it is no iterator.
     /// The next arc that is held, or none; an arc with an end that has no place is skipped.
     pub fn next<S: ArcSource>(&mut self, source: &S) -> Option<HeldArc<S::Node, S::Weight>>
         ensures shows { result ≡ shown (first_held S.Node.NodeKey.index (order_of self.old.ordering.now) self.old.position (S.ArcSource.arcs source.now)) }
@@ -67,13 +64,9 @@ impl<'o, 'w> HeldArcs<'o, 'w> {
     {
         for position in self.position..source.arc_count() {
             self.position = position + 1;
-            if let Some(arc) = source.arc_at(position) {
-                if self
-                    .ordering
-                    .holds(arc.source.node_index(), arc.target.node_index())
-                {
-                    return Some(HeldArc { position, arc });
-                }
+            let arc = source.arc_at(position)?;
+            if self.ordering.holds(&arc) {
+                return Some(HeldArc { position, arc });
             }
         }
         None

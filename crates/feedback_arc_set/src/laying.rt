@@ -14,8 +14,8 @@ use crate::buckets::Buckets;
 use crate::container::FasNodeContainer;
 use crate::neighbours::{node_at, set_next};
 use crate::places::NeighbourPlace;
-use fas_layout::Direction;
 use keys::FasNodeIndex;
+use network::CompactDirection;
 
 // The place `p` comes to the front of the entry's list of neighbours.
 fn lead(
@@ -23,7 +23,7 @@ fn lead(
     neighbours: &mut [NeighbourPlace],
     p: u32,
     ix: FasNodeIndex,
-    direction: Direction,
+    direction: CompactDirection,
 )
     requires { slice_index (degrees direction (columns nodes.old)) ix.value + 1 < 2 ^ 32 }
     ensures leads { LeadsTo (neighbours_of neighbours.old) (neighbours_of neighbours.new) p (slice_index_or (firsts direction (columns nodes.old)) ix.value None) }
@@ -49,8 +49,14 @@ fn lay_arc(nodes: &mut FasNodeContainer<'_>, neighbours: &mut [NeighbourPlace], 
 {
     let target = node_at(neighbours, 2 * i);
     let source = node_at(neighbours, 2 * i + 1);
-    lead(nodes, neighbours, 2 * i, source, Direction::Outgoing);
-    lead(nodes, neighbours, 2 * i + 1, target, Direction::Incoming);
+    lead(nodes, neighbours, 2 * i, source, CompactDirection::Outgoing);
+    lead(
+        nodes,
+        neighbours,
+        2 * i + 1,
+        target,
+        CompactDirection::Incoming,
+    );
 }
 
 // All arcs, the last first, so that each list is in the sequence of the arcs.
@@ -69,21 +75,21 @@ pub(crate) fn lay_all(
     ensures positions { (columns nodes.new).positions ≡ (columns nodes.old).positions }
     ensures names { SameNames nodes.new nodes.old }
 {
-    let mut i = arcs;
-    while i > 0 {
-        i -= 1;
+    // an arc's own number
+    for i in (0..arcs).rev() {
         lay_arc(nodes, neighbours, i);
     }
 }
 
-// Each entry below `count`, one after the other, goes to the front of its class.
-pub(crate) fn file_all(nodes: &mut FasNodeContainer<'_>, buckets: &mut Buckets<'_>, count: u32)
-    ensures filed { ((z : ℕ) → is_in (at (columns nodes.old).positions z) ≡ false) → ((k : ℕ) → slice_index_or (starts buckets.old) k None ≡ None) → ((z : ℕ) → z < count → class_at buckets.old.arcs (columns nodes.old) z < length (starts buckets.old)) → count ≤ length (nodes_of nodes.old) → Filed (columns nodes.new).positions (class_at buckets.old.arcs (columns nodes.old)) (starts buckets.new) (down count) }
+// Each entry, one after the other, goes to the front of its class.
+pub(crate) fn file_all(nodes: &mut FasNodeContainer<'_>, buckets: &mut Buckets<'_>)
+    ensures filed { ((z : ℕ) → is_in (at (columns nodes.old).positions z) ≡ false) → ((k : ℕ) → slice_index_or (starts buckets.old) k None ≡ None) → ((z : ℕ) → z < length (nodes_of nodes.old) → class_at buckets.old.arcs (columns nodes.old) z < length (starts buckets.old)) → Filed (columns nodes.new).positions (class_at buckets.old.arcs (columns nodes.old)) (starts buckets.new) (down (length (nodes_of nodes.old))) }
     ensures kept { SameButPositions (columns nodes.new) (columns nodes.old) }
     ensures names { SameNames nodes.new nodes.old }
     ensures sizes { SameSizes buckets.new buckets.old }
 {
-    for i in 0..count {
+    // an entry's own number
+    for i in 0..nodes.len() {
         let ix = FasNodeIndex::new(i);
         let class = buckets.suitable_bucket(nodes, ix);
         buckets.push_front(nodes, class, ix);
@@ -95,20 +101,18 @@ pub(crate) fn lay_out(
     nodes: &mut FasNodeContainer<'_>,
     neighbours: &mut [NeighbourPlace],
     buckets: &mut Buckets<'_>,
-    count: u32,
 )
     requires few { buckets.old.arcs ≤ 16384 }
     requires room { 2 * buckets.old.arcs ≤ length neighbours.old }
     requires wide { 2 * buckets.old.arcs < length (starts buckets.old) }
-    requires count { count ≡ length (nodes_of nodes.old) }
     requires ends { EndsBelow (neighbours_of neighbours.old).nodes buckets.old.arcs (length (nodes_of nodes.old)) }
     requires blank { AllBlank nodes.old }
     requires empty { (k : ℕ) → slice_index_or (starts buckets.old) k None ≡ None }
-    ensures stands { Stands buckets.old.arcs (links_from (neighbours_of neighbours.old).nodes 0 buckets.old.arcs) (neighbours_of neighbours.new) (columns nodes.new) (starts buckets.new) (down count) }
+    ensures stands { Stands buckets.old.arcs (links_from (neighbours_of neighbours.old).nodes 0 buckets.old.arcs) (neighbours_of neighbours.new) (columns nodes.new) (starts buckets.new) (down (length (nodes_of nodes.old))) }
     ensures blank { BlankFrom neighbours.old (2 * buckets.old.arcs) → BlankFrom neighbours.new (2 * buckets.old.arcs) }
     ensures names { SameNames nodes.new nodes.old }
     ensures sizes { SameSizes buckets.new buckets.old }
 {
     lay_all(nodes, neighbours, buckets.arcs);
-    file_all(nodes, buckets, count);
+    file_all(nodes, buckets);
 }

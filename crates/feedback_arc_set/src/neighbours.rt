@@ -3,38 +3,29 @@ ghost use Rattle.fas_layout.specs.Following.{later_of};
 ghost use Rattle.fas_layout.specs.Laying.{LeadsTo};
 ghost use Rattle.feedback_arc_set.specs.Nodes.{blank_neighbour, neighbours_of, neighbour_place, BlankFrom, SameButAt};
 
-use crate::places::NeighbourPlace;
+use crate::places::{NeighbourPlace, put};
 use keys::FasNodeIndex;
 
 // The neighbour at a place.
 pub(crate) fn node_at(places: &[NeighbourPlace], p: u32) -> FasNodeIndex
     ensures { result.value ≡ slice_index (neighbours_of places.now).nodes p }
 {
-    if (p as usize) < places.len() {
-        places[p as usize].node
-    } else {
-        FasNodeIndex::new(0)
-    }
+    places
+        .get(p as usize)
+        .map_or(FasNodeIndex::new(0), |place| place.node)
 }
 
 fn later(p: u32, next: Option<u32>) -> Option<u32>
     ensures { result ≡ later_of p next }
 {
-    match next {
-        None => None,
-        Some(q) => { if p < q { Some(q) } else { None } }
-    }
+    next.filter(|next| p < *next)
 }
 
 // The place after `p` in its list; places rise along a list.
 pub(crate) fn next_at(places: &[NeighbourPlace], p: u32) -> Option<u32>
     ensures { result ≡ later_of p (slice_index_or (neighbours_of places.now).nexts p None) }
 {
-    if (p as usize) < places.len() {
-        later(p, places[p as usize].next)
-    } else {
-        None
-    }
+    later(p, places.get(p as usize)?.next)
 }
 
 // The place `p` leads on to `next`.
@@ -44,7 +35,7 @@ pub(crate) fn set_next(places: &mut [NeighbourPlace], p: u32, next: Option<u32>)
 {
     let i = p as usize;
     if i < places.len() {
-        places[i] = NeighbourPlace { next, ..places[i] };
+        places[i].next = next;
     }
 }
 
@@ -52,17 +43,13 @@ pub(crate) fn set_next(places: &mut [NeighbourPlace], p: u32, next: Option<u32>)
 pub(crate) fn set_neighbour(places: &mut [NeighbourPlace], p: u32, node: FasNodeIndex)
     ensures { places.new ≡ slice_set places.old p (neighbour_place node) }
 {
-    let i = p as usize;
-    if i < places.len() {
-        places[i] = NeighbourPlace { node, next: None };
-    }
+    put(places, p as usize, NeighbourPlace { node, next: None });
 }
 
 // Blanks the first `count` places.
 pub(crate) fn blank_first(places: &mut [NeighbourPlace], count: u32)
     ensures { BlankFrom places.old count → places.new ≡ replicate (length places.old) blank_neighbour }
 {
-    for p in 0..count {
-        set_neighbour(places, p, FasNodeIndex::new(0));
-    }
+    let count = places.len().min(count as usize);
+    places[..count].fill(NeighbourPlace::blank());
 }

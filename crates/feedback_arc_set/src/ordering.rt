@@ -1,6 +1,6 @@
 ghost use Rattle.std.specs.Prelude.{◌≤◌, length};
 ghost use Rattle.feedback_arc_set.specs.Orders.{Clean, Placed, order_in, order_places};
-ghost use Rattle.keyed_table.specs.Tables.{Intact, listing};
+ghost use Rattle.keyed_table.specs.Tables.{listing};
 
 use crate::tables::WorkTables;
 
@@ -12,8 +12,7 @@ mod questions;
 pub struct Ordering<'w> {
     pub(crate) tables: WorkTables<'w>,
     pub(crate) touched: u32,
-    ghost intact: { Intact tables.entries },
     ghost fits: { touched ≤ length (order_places tables) },
     ghost clean: { ∥ Clean tables ∥₁ },
-    ghost placed: { ∥ Placed (listing tables.entries) (order_in (order_places tables) touched) ∥₁ },
+    ghost placed: { ∥ Placed (listing tables.nodes.table) (order_in (order_places tables) touched) ∥₁ },
 }

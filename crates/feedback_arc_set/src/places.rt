@@ -1,4 +1,4 @@
-ghost use Rattle.std.specs.Prelude.{◌≡◌};
+ghost use Rattle.std.specs.Prelude.{◌≡◌, slice_set};
 ghost use Rattle.feedback_arc_set.specs.Nodes.{blank_neighbour, blank_class};
 
 use keys::FasNodeIndex;
@@ -37,5 +37,15 @@ impl ClassPlace {
         ClassPlace {
             list: LinkedList::new(),
         }
+    }
+}
+
+// By index: after a slice's `get_mut` a proof knows only the length.
+// Writes a place; past the last nothing is written.
+pub(crate) fn put<T: Copy>(places: &mut [T], i: usize, place: T)
+    ensures { places.new ≡ slice_set places.old i place }
+{
+    if i < places.len() {
+        places[i] = place;
     }
 }

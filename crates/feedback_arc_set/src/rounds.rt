@@ -12,6 +12,9 @@ use crate::container::FasNodeContainer;
 use crate::halves::Halves;
 use crate::places::NeighbourPlace;
 
+// Not one function with `take_sources`: class, half and what holds before and after differ, so that each clause would be
+// by cases. The four parameters stay apart: of a struct that holds structs of lent tables nothing is known once it is
+// let go.
 // All sinks, each to the front of the tail half.
 fn take_sinks(
     nodes: &mut FasNodeContainer<'_>,
@@ -58,6 +61,7 @@ pub(crate) fn take_all(
     ensures names { SameNames nodes.new nodes.old }
     ensures lenders { SameLenders buckets.new halves.new buckets.old halves.old }
 {
+    // labelled rounds, as in petgraph
     'rounds: loop {
         take_sinks(nodes, buckets, neighbours, halves);
         take_sources(nodes, buckets, neighbours, halves);

@@ -1,4 +1,4 @@
-ghost use Rattle.std.specs.Prelude.{◌≡◌, ℕ, ◌*◌, ◌<◌, ◌≤◌, List, [], length, replicate, Some, None};
+ghost use Rattle.std.specs.Prelude.{◌≡◌, ◌*◌, ◌<◌, ◌≤◌, List, [], length, replicate, MatchOption};
 ghost use Rattle.fas_layout.specs.Laying.{EndsBelow, Entered};
 ghost use Rattle.feedback_arc_set.specs.Containers.{AllBlank, OwnNames, SameNames, met_of, nodes_of, slots_of};
 ghost use Rattle.feedback_arc_set.specs.Nodes.{blank_class, blank_neighbour, neighbours_of, starts_of, BlankFrom};
@@ -19,24 +19,24 @@ use crate::rounds::take_all;
 use keys::NodeIndex;
 use network::ArcSource;
 
-// The greedy order of the nodes of the `arcs` arcs whose ends are entered goes to the front of the order places.
+// The greedy order of the nodes of the `arcs` arcs whose ends are entered goes to the front of the order places. The
+// answer is how many they are.
 pub(crate) fn good_node_sequence(
     nodes: &mut FasNodeContainer<'_>,
     neighbours: &mut [NeighbourPlace],
     classes: &mut [ClassPlace],
     order: &mut [NodeIndex],
     arcs: u32,
-    count: u32,
-)
+) -> u32
     requires few { arcs ≤ 16384 }
     requires room { 2 * arcs ≤ length neighbours.old }
     requires wide { 2 * arcs < length classes.old }
-    requires count { count ≡ length (nodes_of nodes.old) }
-    requires places { count ≤ length order.old }
+    requires places { length (nodes_of nodes.old) ≤ length order.old }
     requires ends { EndsBelow (neighbours_of neighbours.old).nodes arcs (length (nodes_of nodes.old)) }
     requires blank { AllBlank nodes.old }
     requires empty { classes.old ≡ replicate (length classes.old) blank_class }
     ensures ranked { (network : List Link) → length network ≡ arcs → Entered network arcs (met_of nodes.old) (neighbours_of neighbours.old).nodes → OwnNames nodes.old → Ranked network nodes.new order.old order.new }
+    ensures count { result ≡ length (nodes_of nodes.old) }
     ensures names { SameNames nodes.new nodes.old }
     ensures neighbours { BlankFrom neighbours.old (2 * arcs) → neighbours.new ≡ replicate (length neighbours.old) blank_neighbour }
     ensures classes { classes.new ≡ replicate (length classes.old) blank_class }
@@ -46,7 +46,8 @@ pub(crate) fn good_node_sequence(
         arcs,
         top: 2 * (arcs as usize),
     };
-    lay_out(nodes, neighbours, &mut buckets, count);
+    let count = nodes.len();
+    lay_out(nodes, neighbours, &mut buckets);
     let mut halves = Halves {
         places: order,
         front: 0,
@@ -54,6 +55,7 @@ pub(crate) fn good_node_sequence(
     };
     take_all(nodes, &mut buckets, neighbours, &mut halves);
     blank_first(neighbours, 2 * arcs);
+    count
 }
 
 // Orders the nodes of a source with `arcs` arcs, and answers how many they are. None: they are more than `most`; then
@@ -72,17 +74,14 @@ pub(crate) fn order_nodes<S: ArcSource>(
     requires most { (most ≤ room_of (slots_of nodes.old)) × (most ≤ length order.old) }
     requires fresh { listing nodes.old.table ≡ [] }
     requires clean { (neighbours.old ≡ replicate (length neighbours.old) blank_neighbour) × (classes.old ≡ replicate (length classes.old) blank_class) }
-    ensures refused { result ≡ None → (most < length (touched (links S.Node.index (S.ArcSource.arcs source.now)))) × (listing nodes.new.table ≡ []) × (places nodes.new.table ≡ replicate (slots_of nodes.old) blank_slot) × (order.new ≡ order.old) }
-    ensures granted { (n : ℕ) → result ≡ Some n → (n ≡ length (met_of nodes.new)) × (n ≤ most) × Ranked (links S.Node.index (S.ArcSource.arcs source.now)) nodes.new order.old order.new }
+    ensures ordered { MatchOption result ((most < length (touched (links S.Node.index (S.ArcSource.arcs source.now)))) × (listing nodes.new.table ≡ []) × (places nodes.new.table ≡ replicate (slots_of nodes.old) blank_slot) × (order.new ≡ order.old)) (λ n. (n ≡ length (met_of nodes.new)) × (n ≤ most) × Ranked (links S.Node.index (S.ArcSource.arcs source.now)) nodes.new order.old order.new) }
     ensures slots { slots_of nodes.new ≡ slots_of nodes.old }
     ensures clean { (neighbours.new ≡ neighbours.old) × (classes.new ≡ classes.old) }
 {
-    if !enter_all(nodes, neighbours, source, arcs, most) {
+    if enter_all(nodes, neighbours, source, most).is_none() {
         nodes.clear();
         blank_first(neighbours, 2 * arcs);
         return None;
     }
-    let count = nodes.len();
-    good_node_sequence(nodes, neighbours, classes, order, arcs, count);
-    Some(count)
+    Some(good_node_sequence(nodes, neighbours, classes, order, arcs))
 }

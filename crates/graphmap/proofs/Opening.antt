@@ -3,15 +3,15 @@ use Rattle.std.proofs.Common.{◌≡◌, ℕ, suc, List, [], ◌∷◌, ◌++◌
 use mathlib.Core.List.{reverse-cons}
 use Rattle.std.specs.Option.{option_map}
 use Rattle.std.proofs.lemmas.List.{length-reverse}
-use Rattle.linked_list.specs.declared.position.Position.{Position}
+use Rattle.linked_list.specs.Places.{Position}
 use Rattle.linked_list.specs.Places.{prev_of}
 use Rattle.linked_list.specs.Chains.{last, last_from, Chain, Holds}
 use Rattle.linked_list.proofs.Linking.{holds_length}
-use Rattle.map_model.specs.declared.CompactDirection.{CompactDirection}
+use Rattle.network.specs.declared.direction.CompactDirection.{CompactDirection}
 use Rattle.map_model.specs.Lists.{kept, found}
 use Rattle.map_model.specs.Model.{Link, named, links_of}
 use Rattle.map_model.specs.Shown.{shows, links_shown}
-use Rattle.map_layout.specs.declared.records.Neighbor.{Neighbor}
+use Rattle.map_layout.specs.declared.records.IndexedKey.{IndexedKey}
 use Rattle.map_layout.specs.Layout.{State, NodeItem, numbered, of_node, links_in, link_at, link_to, places_of, node_of, model}
 use Rattle.map_layout.specs.Edits.{Good, oldest_of, oldest_at}
 use Rattle.map_layout.specs.Steps.{node_at}
@@ -33,8 +33,8 @@ chain_ahead L q (x ∷ l) m c a =
 holds_ahead : (L : List Position) (s : Option ℕ) (l : List ℕ) → Holds L s l → Ahead L (last l) (reverse l)
 holds_ahead L s l h = subst (Ahead L (last l)) (append-nil (reverse l)) (chain_ahead L None l [] h.linked refl)
 
-module _ {N : Type 0} (cs : List (Option (Neighbor N))) where
-  reverse_link : (p : ℕ) (o : Option (Neighbor N)) (m : List (Link N)) → reverse (link_at p o ++ m) ≡ reverse m ++ link_at p o
+module _ {N : Type 0} (cs : List (Option (IndexedKey N))) where
+  reverse_link : (p : ℕ) (o : Option (IndexedKey N)) (m : List (Link N)) → reverse (link_at p o ++ m) ≡ reverse m ++ link_at p o
   reverse_link p None m = sym (append-nil (reverse m))
   reverse_link p (Some o) m = reverse-cons (link_to p o) m
 

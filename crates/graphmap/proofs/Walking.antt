@@ -1,75 +1,77 @@
--- A cursor goes from one place of a node's links to the next.
-use Rattle.std.proofs.Common.{◌≡◌, ℕ, suc, ◌+◌, ◌≤◌, true, false, cond, List, [], ◌∷◌, ◌++◌, length, get_or, Some, None, Option, sym, refl, ap, ◌∙◌, subst, arith}
-use Rattle.linked_list.specs.Places.{at, prev_of}
-use Rattle.map_model.specs.declared.CompactDirection.{CompactDirection}
+-- A walk goes from one place of a node's links to the next.
+use Rattle.std.proofs.Common.{◌≡◌, ℕ, zero, suc, ◌<◌, true, false, cond, List, [], ◌∷◌, ◌++◌, length, get_or, Some, None, Option, sym, refl, ap, ◌∙◌, arith, Bor}
+use native.Mathlib.Bridge.{le_prop}
+use Rattle.linked_list.specs.Places.{Position, at, prev_of}
+use Rattle.network.specs.declared.direction.CompactDirection.{CompactDirection}
 use Rattle.map_model.specs.Lists.{kept}
 use Rattle.map_model.specs.Model.{Link}
 use Rattle.map_model.specs.Shown.{shows}
-use Rattle.map_layout.specs.declared.records.Neighbor.{Neighbor}
-use Rattle.map_layout.specs.Layout.{State, links_in, link_at, link_to, direction_at}
-use Rattle.graphmap.specs.declared.link_found.LinkFound.{LinkFound}
-use Rattle.graphmap.specs.Links.{Ahead, ToCome, FoundFirst}
+use Rattle.map_layout.specs.declared.records.IndexedKey.{IndexedKey}
+use Rattle.map_layout.specs.Layout.{State, links_in, link_at, link_to}
+use Rattle.graphmap.specs.declared.graphmap.GraphMap.{GraphMap}
+use Rattle.graphmap.specs.declared.graphmap.walk.LinksDirected.{LinksDirected}
+use Rattle.graphmap.specs.States.{state}
+use Rattle.graphmap.specs.Links.{Ahead, ToCome, places_from, places_left, WalkEnds, links_left}
 
-module _ {N E : Type 0} (st : State N E) (i : ℕ) (d : CompactDirection) where
-  -- the cursor stands at p
-  record Here (p n : ℕ) (ks : List (Link N)) : Type 0 where
-    later : List ℕ
-    ahead : Ahead st.positions (prev_of (at st.positions p)) later
-    few : suc (length later) + n ≤ length st.positions
-    shown : ks ≡ kept (shows i d) (link_at p (get_or st.neighbors p None) ++ links_in st.neighbors later)
+-- ---- the places of a walk
+module _ (L : List Position) where
+  ahead_from : (n : ℕ) (s : Option ℕ) → length (places_from L n s) < n → Ahead L s (places_from L n s)
+  ahead_from zero s h = absurd (omega arith)
+  ahead_from (suc n) None h = refl
+  ahead_from (suc n) (Some p) h = (refl, ahead_from n (prev_of (at L p)) (omega arith))
 
-  at_places : (p n : ℕ) (ks : List (Link N)) (l : List ℕ) → Ahead st.positions (Some p) l → length l + n ≤ length st.positions → ks ≡ kept (shows i d) (links_in st.neighbors l) → Here p n ks
-  at_places p n ks [] a f s = absurd (let z : ◌≡◌ {A = ℕ} 0 1 = cc in omega arith)
-  at_places p n ks (q ∷ l) a f s =
-      let e : q ≡ p = cc a.0 in
-      record {
-        later = l;
-        ahead = subst (λ v. Ahead st.positions (prev_of (at st.positions v)) l) e a.1;
-        few = f;
-        shown = s ∙ ap (λ v. kept (shows i d) (link_at v (get_or st.neighbors v None) ++ links_in st.neighbors l)) e;
-      }
+  from_ahead : (n : ℕ) (s : Option ℕ) (l : List ℕ) → Ahead L s l → length l < n → places_from L n s ≡ l
+  from_ahead zero s l a h = absurd (omega arith)
+  from_ahead (suc n) s [] a h = ap (places_from L (suc n)) a
+  from_ahead (suc n) s (p ∷ l) a h = ap (places_from L (suc n)) a.0 ∙ ap (λ z. p ∷ z) (from_ahead n (prev_of (at L p)) l a.1 (omega arith))
 
-  here : (p n : ℕ) (ks : List (Link N)) → ToCome st i d (Some p) n ks → Here p n ks
-  here p n ks t = at_places p n ks t.places t.ahead t.few t.shown
+module _ {N E : Type 0} (st : State N E) where
+  module _ (i : ℕ) (d : CompactDirection) where
+    left_places : (s : Option ℕ) (ks : List (Link N)) → (t : ToCome st i d s 0 ks) → places_left st s ≡ t.places
+    left_places s ks t = let f = t.few in from_ahead st.positions (suc (length st.positions)) s t.places t.ahead (omega arith)
 
-  end_places : (s : Option ℕ) (ks : List (Link N)) (l : List ℕ) → s ≡ None → Ahead st.positions s l → ks ≡ kept (shows i d) (links_in st.neighbors l) → ks ≡ []
-  end_places s ks [] e a h = h
-  end_places s ks (q ∷ l) e a h = absurd (let z : ◌≡◌ {A = ℕ} 0 1 = cc a.0 in omega arith)
+    pub walk_ends : (s : Option ℕ) (ks : List (Link N)) → ToCome st i d s 0 ks → WalkEnds st s
+    walk_ends s ks t = let f = t.few in let e = ap length (left_places s ks t) in omega arith
 
-  pub to_end : (n : ℕ) (ks : List (Link N)) → ToCome st i d None n ks → ks ≡ []
-  to_end n ks t = end_places None ks t.places refl t.ahead t.shown
+    pub to_come : (s : Option ℕ) → WalkEnds st s → ToCome st i d s 0 (links_left st i d s)
+    to_come s h = record { places = places_left st s; ahead = ahead_from st.positions (suc (length st.positions)) s (omega arith); few = omega arith; shown = refl }
 
-  limit_places : (ks : List (Link N)) (l : List ℕ) → length l ≤ 0 → ks ≡ kept (shows i d) (links_in st.neighbors l) → ks ≡ []
-  limit_places ks [] b h = h
-  limit_places ks (q ∷ l) b h = absurd (omega arith)
+    pub only_left : (s : Option ℕ) (ks : List (Link N)) → ToCome st i d s 0 ks → ks ≡ links_left st i d s
+    only_left s ks t = t.shown ∙ ap (λ l. kept (shows i d) (links_in st.neighbors l)) (sym (left_places s ks t))
 
-  pub to_limit : (s : Option ℕ) (n : ℕ) (ks : List (Link N)) → length st.positions ≤ n → ToCome st i d s n ks → ks ≡ []
-  to_limit s n ks b t = let f = t.few in limit_places ks t.places (omega arith) t.shown
+  -- ---- one place
+  module _ (p : ℕ) (s next : Option ℕ) (at_p : s ≡ Some p) (goes : next ≡ prev_of (at st.positions p)) (ends : WalkEnds st s) where
+    shorter : length (places_from st.positions (length st.positions) next) < length st.positions
+    shorter = let e = ap (λ z. length (places_left st z)) at_p in let f = ap (λ z. length (places_from st.positions (length st.positions) z)) goes in omega arith
 
-  -- the link at p is not shown
-  pub passed : (p n : ℕ) (next : Option ℕ) (ks : List (Link N)) → next ≡ prev_of (at st.positions p) → ((l : List ℕ) → kept (shows i d) (link_at p (get_or st.neighbors p None) ++ links_in st.neighbors l) ≡ kept (shows i d) (links_in st.neighbors l))
-      → ToCome st i d (Some p) n ks → ToCome st i d next (n + 1) ks
-  passed p n next ks e q t =
-      let h = here p n ks t in
-      let f = h.few in
-      record { places = h.later; ahead = subst (λ v. Ahead st.positions v h.later) (sym e) h.ahead; few = omega arith; shown = h.shown ∙ q h.later }
+    tail : places_left st s ≡ p ∷ places_left st next
+    tail =
+        ap (places_left st) at_p ∙ ap (λ z. p ∷ places_from st.positions (length st.positions) z) (sym goes)
+        ∙ ap (λ z. p ∷ z) (sym (from_ahead st.positions (suc (length st.positions)) next (places_from st.positions (length st.positions) next) (ahead_from st.positions (length st.positions) next shorter) (let h = shorter in omega arith)))
 
-  pub none_there : (p : ℕ) → get_or st.neighbors p None ≡ None → (l : List ℕ) → kept (shows i d) (link_at p (get_or st.neighbors p None) ++ links_in st.neighbors l) ≡ kept (shows i d) (links_in st.neighbors l)
-  none_there p e l = ap (λ v. kept (shows i d) (link_at p v ++ links_in st.neighbors l)) e
+    pub fewer : length (places_left st next) < length (places_left st s)
+    fewer = let e = ap length tail in omega arith
 
-  pub not_shown : (p : ℕ) (o : Neighbor N) → get_or st.neighbors p None ≡ Some o → shows i d (link_to p o) ≡ false → (l : List ℕ) → kept (shows i d) (link_at p (get_or st.neighbors p None) ++ links_in st.neighbors l) ≡ kept (shows i d) (links_in st.neighbors l)
-  not_shown p o e b l = ap (λ v. kept (shows i d) (link_at p v ++ links_in st.neighbors l)) e ∙ ap (λ v. cond v (link_to p o ∷ kept (shows i d) (links_in st.neighbors l)) (kept (shows i d) (links_in st.neighbors l))) b
+    pub still_ends : WalkEnds st next
+    still_ends = let e = fewer in omega arith
 
-  pub found_at : (p n : ℕ) (o : Neighbor N) (f : LinkFound N) (ks : List (Link N)) → f.neighbor ≡ o → f.direction ≡ direction_at p → f.next ≡ prev_of (at st.positions p) → get_or st.neighbors p None ≡ Some o → shows i d (link_to p o) ≡ true
-      → ToCome st i d (Some p) n ks → FoundFirst st i d ks f
-  found_at p n o f ks en ed ex e b t =
-      let h = here p n ks t in
-      let g = h.few in
-      record {
-        rest = kept (shows i d) (links_in st.neighbors h.later);
-        first = h.shown ∙ ap (λ v. kept (shows i d) (link_at p v ++ links_in st.neighbors h.later)) e
-            ∙ ap (λ v. cond v (link_to p o ∷ kept (shows i d) (links_in st.neighbors h.later)) (kept (shows i d) (links_in st.neighbors h.later))) b
-            ∙ ap (λ v. record { key = v.key; index = v.index.value; direction = direction_at p } ∷ kept (shows i d) (links_in st.neighbors h.later)) (sym en)
-            ∙ ap (λ v. record { key = f.neighbor.key; index = f.neighbor.index.value; direction = v } ∷ kept (shows i d) (links_in st.neighbors h.later)) (sym ed);
-        to_come = record { places = h.later; ahead = subst (λ v. Ahead st.positions v h.later) (sym ex) h.ahead; few = omega arith; shown = refl };
-      }
+    module _ (i : ℕ) (d : CompactDirection) where
+      one_place : links_left st i d s ≡ kept (shows i d) (link_at p (get_or st.neighbors p None) ++ links_in st.neighbors (places_left st next))
+      one_place = ap (λ l. kept (shows i d) (links_in st.neighbors l)) tail
+
+      pub none_there : None ≡ get_or st.neighbors p None → links_left st i d s ≡ links_left st i d next
+      none_there e = one_place ∙ ap (λ v. kept (shows i d) (link_at p v ++ links_in st.neighbors (places_left st next))) (sym e)
+
+      by_test : (o : IndexedKey N) → Some o ≡ get_or st.neighbors p None → links_left st i d s ≡ cond (shows i d (link_to p o)) (link_to p o ∷ links_left st i d next) (links_left st i d next)
+      by_test o e = one_place ∙ ap (λ v. kept (shows i d) (link_at p v ++ links_in st.neighbors (places_left st next))) (sym e)
+
+      pub not_shown : (o : IndexedKey N) → Some o ≡ get_or st.neighbors p None → false ≡ shows i d (link_to p o) → links_left st i d s ≡ links_left st i d next
+      not_shown o e b = by_test o e ∙ ap (λ v. cond v (link_to p o ∷ links_left st i d next) (links_left st i d next)) (sym b)
+
+      pub is_shown : (o : IndexedKey N) → Some o ≡ get_or st.neighbors p None → true ≡ shows i d (link_to p o) → links_left st i d s ≡ link_to p o ∷ links_left st i d next
+      is_shown o e b = by_test o e ∙ ap (λ v. cond v (link_to p o ∷ links_left st i d next) (links_left st i d next)) (sym b)
+
+-- that a walk ends is one fact, however it is known
+pub same_walk : {N E : Type 0} (map : Bor (GraphMap N E)) (node : IndexedKey N) (direction : CompactDirection) (place : Option ℕ) (e f : WalkEnds (state map.now.tables) place)
+    → ◌≡◌ {A = LinksDirected N E} (record { map = map; node = node; direction = direction; place = place; ends = e }) (record { map = map; node = node; direction = direction; place = place; ends = f })
+same_walk map node direction place e f = λ x. record { map = map; node = node; direction = direction; place = place; ends = le_prop e f x }

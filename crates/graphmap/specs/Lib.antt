@@ -4,3 +4,4 @@ pub mod Capacity
 pub mod Maps
 pub mod Sources
 pub mod Links
+pub mod Cursors

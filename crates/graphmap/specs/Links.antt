@@ -1,13 +1,13 @@
 -- What a cursor over the links of a node has still to show.
-use Rattle.std.specs.Prelude.{◌≡◌, ℕ, ◌+◌, ◌≤◌, true, List, [], ◌∷◌, length, is_some, Some, None, Option}
-use Rattle.linked_list.specs.declared.position.Position.{Position}
+use Rattle.std.specs.Prelude.{◌≡◌, ℕ, zero, suc, ◌+◌, ◌≤◌, true, List, [], ◌∷◌, length, is_some, Some, None, Option}
+use Rattle.linked_list.specs.Places.{Position}
 use Rattle.linked_list.specs.Places.{at, prev_of}
-use Rattle.map_model.specs.declared.CompactDirection.{CompactDirection}
+use Rattle.network.specs.declared.direction.CompactDirection.{CompactDirection}
 use Rattle.map_model.specs.Lists.{kept}
 use Rattle.map_model.specs.Model.{Link, Arc}
 use Rattle.map_model.specs.Shown.{shows, edge_of}
 use Rattle.map_layout.specs.Layout.{State, links_in}
-use Rattle.graphmap.specs.declared.link_found.LinkFound.{LinkFound}
+use Rattle.map_layout.specs.declared.records.IndexedKey.{IndexedKey}
 
 -- the places from s on, from older links to newer ones
 abbrev pub Ahead : List Position → Option ℕ → List ℕ → Type 0
@@ -21,11 +21,27 @@ pub record ToCome {N E : Type 0} (st : State N E) (i : ℕ) (d : CompactDirectio
   pub few : length places + n ≤ length st.positions
   pub shown : ks ≡ kept (shows i d) (links_in st.neighbors places)
 
--- the link that was found, and what is still to show after it
-pub record FoundFirst {N E : Type 0} (st : State N E) (i : ℕ) (d : CompactDirection) (ks : List (Link N)) (f : LinkFound N) : Type 0 where
-  pub rest : List (Link N)
-  pub first : ks ≡ record { key = f.neighbor.key; index = f.neighbor.index.value; direction = f.direction } ∷ rest
-  pub to_come : ToCome st i d f.next 0 rest
+-- the places from s on, n of them at most
+abbrev pub places_from : List Position → ℕ → Option ℕ → List ℕ
+places_from L zero s = []
+places_from L (suc n) None = []
+places_from L (suc n) (Some p) = p ∷ places_from L n (prev_of (at L p))
+
+abbrev pub places_left : {N E : Type 0} → State N E → Option ℕ → List ℕ
+places_left st s = places_from st.positions (suc (length st.positions)) s
+
+-- the walk from s on comes to its end
+abbrev pub WalkEnds : {N E : Type 0} → State N E → Option ℕ → Type 0
+WalkEnds st s = length (places_left st s) ≤ length st.positions
+
+-- the links that a direction shows of those from the place s on
+abbrev pub links_left : {N E : Type 0} → State N E → ℕ → CompactDirection → Option ℕ → List (Link N)
+links_left st i d s = kept (shows i d) (links_in st.neighbors (places_left st s))
+
+-- the first of the links ks, if there is one, has the other end n, and the links ls come after it
+abbrev pub LeadsTo : {N : Type 0} → List (Link N) → Option (IndexedKey N) → List (Link N) → Type 0
+LeadsTo ks None ls = (ks ≡ []) × (ls ≡ [])
+LeadsTo ks (Some n) ls = (own : CompactDirection) × (ks ≡ record { key = n.key; index = n.index.value; direction = own } ∷ ls)
 
 abbrev pub first_of : {X : Type 0} → List X → Option X
 first_of [] = None

@@ -1,6 +1,6 @@
 -- What the tables of a map hold.
 use Rattle.std.specs.Prelude.{ℕ}
-use Rattle.keyed_table.specs.Tables.{Intact, listing, room}
+use Rattle.keyed_table.specs.Tables.{listing, room}
 use Rattle.map_layout.specs.Layout.{State}
 use Rattle.map_layout.specs.Edits.{empty}
 use Rattle.graphmap.specs.declared.tables.Tables.{Tables}
@@ -17,11 +17,6 @@ state t = record {
   node_places = room t.nodes;
   arc_places = room t.arcs;
 }
-
--- both keyed tables keep their lists
-pub record Whole {N E : Type 0} (t : Tables N E) : Type 0 where
-  pub nodes : Intact t.nodes
-  pub arcs : Intact t.arcs
 
 -- no node and no arc, with n node places, m arc places and k link places
 abbrev pub emptied : (N E : Type 0) → ℕ → ℕ → ℕ → State N E

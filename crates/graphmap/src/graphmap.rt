@@ -1,9 +1,9 @@
-ghost use Rattle.std.specs.Prelude.{◌≤◌};
+ghost use Rattle.std.specs.Prelude.{◌≡◌, ◌≤◌};
 ghost use Rattle.graphmap.specs.States.{state};
-ghost use Rattle.keyed_table.specs.Tables.{Intact};
 ghost use Rattle.map_layout.specs.Edits.{Good};
 
 use crate::tables::Tables;
+use keys::{Ends, Key, NodeIndex, NodeKey};
 
 pub mod building;
 pub mod cursors;
@@ -12,6 +12,7 @@ pub mod links;
 pub mod open;
 pub mod questions;
 pub mod source;
+mod walk;
 
 /// A directed graph map over lent tables, for every node key `N` and every weight `E` that can be copied.
 ///
@@ -20,8 +21,17 @@ pub mod source;
 #[derive(Drop)]
 pub struct GraphMap<'a, N, E> {
     tables: Tables<'a, N, E>,
-    ghost nodes: { Intact tables.nodes },
-    ghost arcs: { Intact tables.arcs },
     ghost few: { (state tables).arc_places ≤ 16384 },
     ghost good: { ∥ Good (state tables) ∥₁ },
+}
+
+// The indices of the ends of the edge from `a` to `b`.
+fn between<N: NodeKey>(a: N, b: N) -> Ends<NodeIndex>
+    ensures source { result.source.value ≡ N.NodeKey.index a }
+    ensures target { result.target.value ≡ N.NodeKey.index b }
+{
+    Ends {
+        source: a.node_index(),
+        target: b.node_index(),
+    }
 }

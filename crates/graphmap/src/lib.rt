@@ -4,7 +4,6 @@
 
 pub mod graphmap;
 pub mod lent;
-pub mod link_found;
 pub mod link_place;
 mod places;
 pub mod tables;

@@ -1,16 +1,15 @@
-ghost use Rattle.std.specs.Prelude.{◌≡◌};
+ghost use Rattle.std.specs.Prelude.{◌≡◌, None};
 ghost use Rattle.graphmap.specs.Places.{blank_place};
-ghost use Rattle.linked_list.specs.declared.position.Position.TheVariants.{Free};
 
-use linked_list::position::Position;
+use linked_list::position::LinkedListPosition;
 use linked_list::slots::Linked;
-use map_layout::Neighbor;
+use map_layout::IndexedKey;
 
 /// A place for one link. Its content is the map's own.
 #[derive(Clone, Copy)]
 pub struct LinkPlace<N> {
-    pub(crate) neighbor: Option<Neighbor<N>>,
-    pub(crate) position: Position,
+    pub(crate) neighbor: Option<IndexedKey<N>>,
+    pub(crate) position: Option<LinkedListPosition>,
 }
 
 impl<N> LinkPlace<N> {
@@ -20,7 +19,7 @@ impl<N> LinkPlace<N> {
     {
         LinkPlace {
             neighbor: None,
-            position: Position::Free,
+            position: None,
         }
     }
 }
@@ -28,16 +27,13 @@ impl<N> LinkPlace<N> {
 impl<N: Copy> Linked for LinkPlace<N> {
     ghost place = { λ p. p.position };
 
-    ghost blank = { λ p. record { neighbor = p.neighbor; position = Free } };
+    ghost blank = { λ p. record { neighbor = p.neighbor; position = None } };
 
-    fn position(&self) -> Position {
+    fn position(&self) -> Option<LinkedListPosition> {
         self.position
     }
 
-    fn set_position(&mut self, position: Position) {
-        *self = LinkPlace {
-            neighbor: self.neighbor,
-            position,
-        };
+    fn set_position(&mut self, position: Option<LinkedListPosition>) {
+        self.position = position;
     }
 }

@@ -1,9 +1,12 @@
+ghost use Rattle.std.specs.Prelude.{◌≡◌};
+ghost use Rattle.map_layout.specs.Edits.{ends_of};
+
 use crate::link_place::LinkPlace;
 use keyed_table::{KeyedTable, Slot};
 use keys::{Ends, NodeIndex};
 use linked_list::list::LinkedList;
 use linked_list::slots::Slots;
-use map_layout::{ArcRecord, NodeRecord};
+use map_layout::{ArcRecord, IndexedKey, NodeRecord};
 
 pub(crate) mod adding;
 pub(crate) mod building;
@@ -30,4 +33,14 @@ pub struct Tables<'a, N, E> {
     pub(crate) unused: LinkedList,
     // from here on no place was ever used
     pub(crate) fresh: u32,
+}
+
+// The ends of an arc by their indices alone.
+fn indices<N: Copy>(ends: Ends<IndexedKey<N>>) -> Ends<NodeIndex>
+    ensures { result ≡ ends_of ends.source.index ends.target.index }
+{
+    Ends {
+        source: ends.source.index,
+        target: ends.target.index,
+    }
 }

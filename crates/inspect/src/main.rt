@@ -2,127 +2,75 @@
 
 #![tactic(auto)]
 
-ghost use Rattle.std.specs.Prelude.{◌≡◌, ◌≤◌, ◌++◌, length, is_ok, IfOk, OnOk};
-ghost use Rattle.decimal.specs.Digits.{digits};
-ghost use Rattle.fault.specs.Faults.{refusal_line};
-ghost use Rattle.inspect.specs.Report.{line, node_line, arc_line, contents_text, report};
+ghost use Rattle.std.specs.Prelude.{◌≡◌, Some, is_ok};
+ghost use Rattle.inspect.specs.Report.{contents_text, told, answer_of, report};
 ghost use Rattle.network_file.specs.Checks.{checked};
-ghost use Rattle.network_file.specs.Reading.{nodes_of, arcs_of, contents_of};
-ghost use Rattle.std.specs.List.{flat_map};
+ghost use Rattle.network_file.specs.Reading.{contents_of};
 
-use anyhow::anyhow;
-use decimal::write_decimal;
-use fault::{Fault, REFUSAL_ROOM, write_refusal};
+use anyhow::ensure;
+use fault::Fault;
 use network_file::{FILE_LIMIT, NetworkFile, check};
-use std::alloc::AllocError;
-use std::io;
+use std::fmt;
 use std::io::Read;
 
-fn push_number(text: &mut Vec<u8>, n: u32) -> Result<(), AllocError>
-    ensures { OnOk result (text.new.items ≡ text.old.items ++ digits n) }
-{
-    let mut digits = [0; 10];
-    let length = write_decimal(&mut digits, 0, n).unwrap();
-    text.extend_from_slice(&digits[0..length])
-}
+// What a network file holds: the counts, then a line for each node and each arc in file sequence.
+#[derive(Clone, Copy)]
+struct Contents<'a>(NetworkFile<'a>);
 
-// A word, then each number after a space.
-fn push_line(text: &mut Vec<u8>, word: &[u8], numbers: &[u32]) -> Result<(), AllocError>
-    ensures { OnOk result (text.new.items ≡ text.old.items ++ line word.now numbers.now) }
-{
-    text.extend_from_slice(word)?;
-    for n in numbers {
-        text.extend_from_slice(b" ")?;
-        push_number(text, *n)?;
-    }
-    text.extend_from_slice(b"\n")
-}
+impl fmt::Display for Contents<'_> {
+    ghost output = { λ s. Some (contents_text (contents_of s.0.bytes.now)) };
 
-fn push_nodes(text: &mut Vec<u8>, file: NetworkFile<'_>) -> Result<(), AllocError>
-    ensures { OnOk result (text.new.items ≡ text.old.items ++ flat_map node_line (nodes_of file.entry.bytes.now)) }
-{
-    for position in 0..file.node_count() {
-        if let Some(node) = file.node_at(position) {
-            push_line(text, b"node", &[node])?;
+    fn fmt<W: fmt::Write>(&self, f: &mut fmt::Formatter<W>) -> fmt::Result {
+        let nodes = self.0.node_count();
+        let arcs = self.0.arc_count();
+        writeln!(f, "nodes {nodes} arcs {arcs}")?;
+        for node in self.0.nodes() {
+            writeln!(f, "node {node}")?;
         }
-    }
-    Ok(())
-}
-
-fn push_arcs(text: &mut Vec<u8>, file: NetworkFile<'_>) -> Result<(), AllocError>
-    ensures { OnOk result (text.new.items ≡ text.old.items ++ flat_map arc_line (arcs_of file.entry.bytes.now)) }
-{
-    for position in 0..file.arc_count() {
-        if let Some(arc) = file.arc_at(position) {
-            push_line(text, b"arc", &[arc.source, arc.target, arc.weight])?;
+        for arc in self.0.arcs() {
+            writeln!(f, "arc {} {} {}", arc.source, arc.target, arc.weight)?;
         }
+        Ok(())
     }
-    Ok(())
 }
 
-fn push_contents(text: &mut Vec<u8>, file: NetworkFile<'_>) -> Result<(), AllocError>
-    ensures { OnOk result (text.new.items ≡ text.old.items ++ contents_text (contents_of file.entry.bytes.now)) }
-{
-    text.extend_from_slice(b"nodes ")?;
-    push_number(text, file.node_count())?;
-    push_line(text, b" arcs", &[file.arc_count()])?;
-    push_nodes(text, file)?;
-    push_arcs(text, file)?;
-    Ok(())
+// What is told of some bytes: how many were read, and what the file holds or why it is refused.
+#[derive(Clone, Copy)]
+struct Report<'a> {
+    length: usize,
+    answer: Result<NetworkFile<'a>, Fault>,
 }
 
-fn push_refusal(text: &mut Vec<u8>, fault: Fault) -> Result<(), AllocError>
-    ensures { OnOk result (text.new.items ≡ text.old.items ++ refusal_line fault) }
-{
-    let mut line = [0; REFUSAL_ROOM];
-    let length = write_refusal(fault, &mut line).unwrap();
-    text.extend_from_slice(&line[0..length])
-}
-
-// Appends the report of a file of these bytes, and answers whether the file is granted.
-fn push_report(text: &mut Vec<u8>, bytes: &[u8]) -> Result<bool, AllocError>
-    requires { length bytes.now ≤ 65536 }
-    ensures { IfOk result (λ granted. (text.new.items ≡ text.old.items ++ report bytes.now) × (granted ≡ is_ok (checked bytes.now))) }
-{
-    text.extend_from_slice(b"read ")?;
-    push_number(text, bytes.len() as u32)?;
-    text.extend_from_slice(b" bytes\n")?;
-    match check(bytes) {
-        Ok(file) => {
-            push_contents(text, file)?;
-            Ok(true)
-        }
-        Err(fault) => {
-            push_refusal(text, fault)?;
-            Ok(false)
+impl<'a> Report<'a> {
+    fn new(bytes: &'a [u8]) -> Self
+        ensures told { told result.length (answer_of result.answer) ≡ report bytes.now }
+        ensures granted { is_ok result.answer ≡ is_ok (checked bytes.now) }
+    {
+        Report {
+            length: bytes.len(),
+            answer: check(bytes),
         }
     }
 }
 
-// Fills `bytes` from the standard input, and answers how many came.
-fn read_file(rt: &HostRuntime, bytes: &mut [u8]) -> io::Result<usize>
-    ensures { IfOk result (λ n. n ≤ length bytes.old) }
-{
-    let mut length = 0;
-    while length < bytes.len() {
-        let got = rt.stdin().read(&mut bytes[length..])?;
-        if got == 0 {
-            break;
+impl fmt::Display for Report<'_> {
+    ghost output = { λ s. Some (told s.length (answer_of s.answer)) };
+
+    fn fmt<W: fmt::Write>(&self, f: &mut fmt::Formatter<W>) -> fmt::Result {
+        let length = self.length;
+        writeln!(f, "read {length} bytes")?;
+        match self.answer {
+            Ok(file) => write!(f, "{}", Contents(file)),
+            Err(fault) => writeln!(f, "{fault}"),
         }
-        length += got;
     }
-    Ok(length)
 }
 
 fn main(rt: HostRuntime) -> anyhow::Result<()> {
-    let mut bytes = [0; FILE_LIMIT];
-    let length = read_file(&rt, &mut bytes)?;
-    let mut text = Vec::new(rt.alloc());
-    let granted = push_report(&mut text, &bytes[0..length])?;
-    rt.write_all(&text)?;
-    if granted {
-        Ok(())
-    } else {
-        Err(anyhow!("refused"))
-    }
+    let mut bytes = Vec::new(rt.alloc());
+    rt.stdin().take(FILE_LIMIT as u64).read_to_end(&mut bytes)?;
+    let report = Report::new(&bytes);
+    rt.print(report)?;
+    ensure!(report.answer.is_ok(), "refused");
+    Ok(())
 }

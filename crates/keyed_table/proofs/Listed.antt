@@ -1,5 +1,5 @@
 -- The list of the items of a slice of slots, of which the first n are in use.
-use Rattle.std.proofs.Common.{◌≡◌, ℕ, zero, suc, ◌+◌, ◌-◌, ◌<◌, ◌≤◌, Bool, true, false, cond, eqb, ltb, ◌≢◌, List, [], ◌∷◌, ◌++◌, map, length, get_or, take, set, is_some, Some, None, Ok, Err, Option, sym, refl, ap, ◌∙◌, subst, ⊎_elim, arith, MatchOption}
+use Rattle.std.proofs.Common.{is_some, ◌≡◌, ℕ, zero, suc, ◌+◌, ◌-◌, ◌<◌, ◌≤◌, Bool, true, false, cond, eqb, ltb, ◌≢◌, List, [], ◌∷◌, ◌++◌, map, length, get_or, take, set, Some, None, Ok, Err, Option, sym, refl, ap, ◌∙◌, subst, ⊎_elim, arith, MatchOption}
 use lib.Seq.{take-set-lt, map-set}
 use Rattle.std.proofs.lemmas.List.{length-set, length-map, length-take-le, get_or-set_same, get_or-set_other, get_or-take, get_or_default, get_or-map, take_more_set, map_push, same_lists, set_past}
 use Rattle.std.proofs.lemmas.Option.{slice_get-get_or, slice_get_past}
@@ -7,21 +7,21 @@ use Rattle.std.specs.List.{slice_get}
 use Rattle.std.proofs.lemmas.Bool.Decides.{nat_tests}
 use Rattle.std.proofs.lemmas.Bool.{true≢false, false≢true, ne_eqb, cases_eq, cases_lt, eq-eqb, eqb-true, lt-ltb, le-ltb, cond-true, cond-false}
 use Rattle.keyed_table.specs.declared.slots.Item.{Item}
-use Rattle.keyed_table.specs.Chains.{held, number_of, numbers, holds_number, Filled, Apart, somes, value_in, revalued, filled_gap}
-use Rattle.keyed_table.specs.Listing.{Different, place, has, found, value_at, with_value, written, changed_at, swapped_out, without, answered, left}
+use Rattle.keyed_table.specs.Chains.{number_of, numbers, holds_number, Filled, Apart, somes, value_in, revalued, filled_gap}
+use Rattle.keyed_table.specs.Listing.{Different, place, found, value_at, with_value, written, changed_at, swapped_out, without, answered, left}
 use Rattle.keyed_table.proofs.Last.{last_is, none_last, last_none}
 
 -- ---- lists of options
-held_none : {K V : Type 0} (o : Option (Item K V)) → held o ≡ false → o ≡ None
-held_none None h = refl
-held_none (Some e) h = absurd (true≢false h)
+pub none_of : {K V : Type 0} (o : Option (Item K V)) → is_some o ≡ false → o ≡ None
+none_of None h = refl
+none_of (Some e) h = absurd (true≢false h)
 
 pub somes_map : {X : Type 0} (l : List X) → somes (map Some l) ≡ l
 somes_map [] = refl
 somes_map (x ∷ l) = ap (λ z. x ∷ z) (somes_map l)
 
 module _ {K V : Type 0} where
-  pub all_some : (es : List (Option (Item K V))) → ((i : ℕ) → i < length es → held (get_or es i None) ≡ true) → es ≡ map Some (somes es)
+  pub all_some : (es : List (Option (Item K V))) → ((i : ℕ) → i < length es → is_some (get_or es i None) ≡ true) → es ≡ map Some (somes es)
   all_some [] h = refl
   all_some (None ∷ es) h = absurd (false≢true (h 0 (omega arith)))
   all_some (Some e ∷ es) h = ap (λ z. Some e ∷ z) (all_some es (λ i g. h (suc i) (omega arith)))
@@ -87,7 +87,7 @@ module _ {K V : Type 0} (es : List (Option (Item K V))) (n : ℕ) (fits : n ≤ 
   listed : take n es ≡ map Some (somes (take n es))
   listed =
       all_some (take n es) (λ i h. let m = length-take-le n es fits in let g : i < n = omega arith in
-      ap held (get_or-take n es i None g) ∙ filled i ∙ lt-ltb i n g)
+      ap is_some (get_or-take n es i None g) ∙ filled i ∙ lt-ltb i n g)
 
   pub length_listed : length (somes (take n es)) ≡ n
   length_listed =
@@ -104,18 +104,18 @@ module _ {K V : Type 0} (es : List (Option (Item K V))) (n : ℕ) (fits : n ≤ 
   number_listed : (i : ℕ) (d : Item K V) → i < n → (get_or (somes (take n es)) i d).number ≡ numbers es i
   number_listed i d h = ap number_of (sym (item_listed i d h))
 
-  holds_in : (o : Option (Item K V)) (k : ℕ) → holds_number k o ≡ true → (held o ≡ true) × (number_of o ≡ k)
+  holds_in : (o : Option (Item K V)) (k : ℕ) → holds_number k o ≡ true → (is_some o ≡ true) × (number_of o ≡ k)
   holds_in None k e = absurd (false≢true e)
   holds_in (Some x) k e = (refl, eqb-true x.number k e)
 
-  in_holds : (o : Option (Item K V)) (k : ℕ) → held o ≡ true → number_of o ≡ k → holds_number k o ≡ true
+  in_holds : (o : Option (Item K V)) (k : ℕ) → is_some o ≡ true → number_of o ≡ k → holds_number k o ≡ true
   in_holds None k h e = absurd (false≢true h)
   in_holds (Some x) k h e = eq-eqb x.number k e
 
-  pub used_lt : (i : ℕ) → held (get_or es i None) ≡ true → i < n
+  pub used_lt : (i : ℕ) → is_some (get_or es i None) ≡ true → i < n
   used_lt i h = ⊎_elim (λ (z : i < n). z) (λ (z : n ≤ i). absurd (false≢true (sym (le-ltb i n z) ∙ sym (filled i) ∙ h))) (cases_lt i n)
 
-  first_of : (x : Option (Item K V)) → held x ≡ true → Item K V
+  first_of : (x : Option (Item K V)) → is_some x ≡ true → Item K V
   first_of None h = absurd (false≢true h)
   first_of (Some e) h = e
 
@@ -167,20 +167,6 @@ module _ {K V : Type 0} (es : List (Option (Item K V))) (n : ℕ) (fits : n ≤ 
   pub value_absent : (k : ℕ) → place k (somes (take n es)) ≡ n → None ≡ value_at k (somes (take n es))
   value_absent k e = let m = length_listed in sym (value_none k (somes (take n es)) (omega arith))
 
--- whether an item has the number
-pub has_is : {K V : Type 0} (es : List (Option (Item K V))) (n : ℕ) (fits : n ≤ length es) (filled : Filled es n) (apart : Apart es n) (k : ℕ) (r : Option ℕ)
-    → MatchOption r ((j : ℕ) → holds_number k (get_or es j None) ≡ true → ⊥) (λ i. holds_number k (get_or es i None) ≡ true) → is_some r ≡ has k (somes (take n es))
-has_is es n fits filled apart k None c =
-    let m = length_listed es n fits filled in
-    let f = found_none es n fits filled k c in
-    sym (le-ltb (place k (somes (take n es))) (length (somes (take n es))) (omega arith))
-has_is es n fits filled apart k (Some i) c =
-    let m = length_listed es n fits filled in
-    let f = found_at es n fits filled apart k i c in
-    let h = f.0 in
-    let e = f.1 in
-    sym (lt-ltb (place k (somes (take n es))) (length (somes (take n es))) (omega arith))
-
 -- ---- the item at a position
 module _ {K V : Type 0} (es : List (Option (Item K V))) (n : ℕ) (fits : n ≤ length es) (filled : Filled es n) where
   pub nth_listed : (i : ℕ) → get_or es i None ≡ slice_get (somes (take n es)) i
@@ -188,7 +174,7 @@ module _ {K V : Type 0} (es : List (Option (Item K V))) (n : ℕ) (fits : n ≤ 
       let m = length_listed es n fits filled in
       ⊎_elim
       (λ (h : i < n). let d = default es n fits filled i h in item_listed es n fits filled i d h ∙ sym (slice_get-get_or (somes (take n es)) i d (omega arith)))
-      (λ (h : n ≤ i). held_none (get_or es i None) (filled i ∙ le-ltb i n h) ∙ sym (slice_get_past (somes (take n es)) i (omega arith)))
+      (λ (h : n ≤ i). none_of (get_or es i None) (filled i ∙ le-ltb i n h) ∙ sym (slice_get_past (somes (take n es)) i (omega arith)))
       (cases_lt i n)
 
   -- no two items have one number
@@ -196,8 +182,8 @@ module _ {K V : Type 0} (es : List (Option (Item K V))) (n : ℕ) (fits : n ≤ 
   listed_different apart i j x y ei ej e =
       let xi : get_or es i None ≡ Some x = nth_listed i ∙ ei in
       let yj : get_or es j None ≡ Some y = nth_listed j ∙ ej in
-      let hi = used_lt es n fits filled i (ap held xi) in
-      let hj = used_lt es n fits filled j (ap held yj) in
+      let hi = used_lt es n fits filled i (ap is_some xi) in
+      let hj = used_lt es n fits filled j (ap is_some yj) in
       let q : numbers es i ≡ numbers es j = ap number_of xi ∙ e ∙ sym (ap number_of yj) in
       ⊎_elim
       (λ (a : i < j). absurd (last_none (numbers es) (numbers es j) j (apart j hj) i a q))
@@ -217,9 +203,9 @@ module _ {K V : Type 0} (es ds : List (Option (Item K V))) (n : ℕ) where
   pub apart_from : ((i j : ℕ) → i < j → j < n → numbers ds i ≡ numbers ds j → ⊥) → Apart ds n
   apart_from d j h = none_last (numbers ds) (numbers ds j) j (λ i g e. d i j g h e)
 
-held_revalued : {K V : Type 0} (v : V) (o : Option (Item K V)) → held (revalued v o) ≡ held o
-held_revalued v None = refl
-held_revalued v (Some e) = refl
+some_revalued : {K V : Type 0} (v : V) (o : Option (Item K V)) → is_some (revalued v o) ≡ is_some o
+some_revalued v None = refl
+some_revalued v (Some e) = refl
 
 number_revalued : {K V : Type 0} (v : V) (o : Option (Item K V)) → number_of (revalued v o) ≡ number_of o
 number_revalued v None = refl
@@ -238,11 +224,8 @@ module _ {K V : Type 0} {Y : Type 0} (f : Option (Item K V) → Y) (es : List (O
 
 -- ---- an item's value is changed
 module _ {K V : Type 0} (es ds : List (Option (Item K V))) (n : ℕ) (fits : n ≤ length es) (filled : Filled es n) (i : ℕ) (v : V) (is : ds ≡ set es i (revalued v (get_or es i None))) where
-  pub put_fits : n ≤ length ds
-  put_fits = let a = ap length is in let b = length-set es i (revalued v (get_or es i None)) in omega arith
-
   pub put_filled : Filled ds n
-  put_filled j = ap (λ z. held (get_or z j None)) is ∙ at_set held es i (revalued v (get_or es i None)) (held_revalued v (get_or es i None)) j ∙ filled j
+  put_filled j = ap (λ z. is_some (get_or z j None)) is ∙ at_set is_some es i (revalued v (get_or es i None)) (some_revalued v (get_or es i None)) j ∙ filled j
 
   put_number : (j : ℕ) → numbers ds j ≡ numbers es j
   put_number j = ap (λ z. numbers z j) is ∙ at_set number_of es i (revalued v (get_or es i None)) (number_revalued v (get_or es i None)) j
@@ -276,9 +259,6 @@ kept_changed es n fits filled i v h = let m = length_listed es n fits filled in 
 
 -- ---- an item is added
 module _ {K V : Type 0} (es ds : List (Option (Item K V))) (n : ℕ) (fits : n ≤ length es) (filled : Filled es n) (x : Item K V) (range : n < length es) (is : ds ≡ set es n (Some x)) where
-  pub add_fits : n + 1 ≤ length ds
-  add_fits = let a = ap length is in let b = length-set es n (Some x) in omega arith
-
   add_here : get_or ds n None ≡ Some x
   add_here = ap (λ z. get_or z n None) is ∙ get_or-set_same es n (Some x) None range
 
@@ -288,8 +268,8 @@ module _ {K V : Type 0} (es ds : List (Option (Item K V))) (n : ℕ) (fits : n �
   pub add_filled : Filled ds (n + 1)
   add_filled j =
       ⊎_elim
-      (λ (q : j ≡ n). ap (λ z. held (get_or ds z None)) q ∙ ap held add_here ∙ sym (lt-ltb j (n + 1) (omega arith)))
-      (λ (q : j ≢ n). ap held (add_else j q) ∙ filled j ∙ grind (arith, nat_tests))
+      (λ (q : j ≡ n). ap (λ z. is_some (get_or ds z None)) q ∙ ap is_some add_here ∙ sym (lt-ltb j (n + 1) (omega arith)))
+      (λ (q : j ≢ n). ap is_some (add_else j q) ∙ filled j ∙ grind (arith, nat_tests))
       (cases_eq j n)
 
   pub add_apart : Apart es n → ((j : ℕ) → holds_number x.number (get_or es j None) ≡ true → ⊥) → Apart ds (n + 1)
@@ -320,8 +300,8 @@ module _ {K V : Type 0} (es ds : List (Option (Item K V))) (i m : ℕ) (fits : m
   pub out_filled : Filled ds m
   out_filled j =
       ⊎_elim
-      (λ (h : j < m). ap held (out_at j h) ∙ filled (cond (eqb j i) m j) ∙ lt-ltb (cond (eqb j i) m j) (m + 1) (grind (arith, nat_tests)) ∙ sym (lt-ltb j m h))
-      (λ (h : m ≤ j). ap held (is j ∙ cond-false (ltb j m) (get_or es (cond (eqb j i) m j) None) None (le-ltb j m h)) ∙ sym (le-ltb j m h))
+      (λ (h : j < m). ap is_some (out_at j h) ∙ filled (cond (eqb j i) m j) ∙ lt-ltb (cond (eqb j i) m j) (m + 1) (grind (arith, nat_tests)) ∙ sym (lt-ltb j m h))
+      (λ (h : m ≤ j). ap is_some (is j ∙ cond-false (ltb j m) (get_or es (cond (eqb j i) m j) None) None (le-ltb j m h)) ∙ sym (le-ltb j m h))
       (cases_lt j m)
 
   differ_either : Apart es (m + 1) → (x y : ℕ) → x < m + 1 → y < m + 1 → numbers es x ≡ numbers es y → x ≡ y
@@ -366,11 +346,6 @@ module _ {K V : Type 0} (es ds : List (Option (Item K V))) (i m : ℕ) (fits : m
       ∙ ap Some (sym (swapped_at (somes (take (m + 1) es)) d (omega arith) j g))
       ∙ sym (get_or-map Some (take m (set (somes (take (m + 1) es)) i (get_or (somes (take (m + 1) es)) m d))) j d x (omega arith))) in
       ap somes t ∙ somes_map (take m (set (somes (take (m + 1) es)) i (get_or (somes (take (m + 1) es)) m d))) ∙ sym w ∙ ap (λ z. swapped_out z (somes (take (m + 1) es))) (sym e) ∙ sym c
-
-  pub out_absent : (k : ℕ) → place k (somes (take (m + 1) es)) ≡ m + 1 → somes (take (m + 1) es) ≡ without k (somes (take (m + 1) es))
-  out_absent k e =
-      let n = length_listed es (m + 1) fits filled in
-      sym (cond-false (ltb (place k (somes (take (m + 1) es))) (length (somes (take (m + 1) es)))) (swapped_out (place k (somes (take (m + 1) es))) (somes (take (m + 1) es))) (somes (take (m + 1) es)) (le-ltb _ _ (omega arith)))
 
 -- ---- what an insertion answers and leaves
 answered_some : {V : Type 0} (o : Option V) (w : V) (b : Bool) → o ≡ Some w → Ok o ≡ answered o b
@@ -436,8 +411,3 @@ module _ {K V : Type 0} (es ds : List (Option (Item K V))) (n i : ℕ) (fits : n
 
   pub removed_apart : length ds ≡ length es → ((j : ℕ) → get_or ds j None ≡ filled_gap es i (n - 1) j) → Apart es n → Apart ds (n - 1)
   removed_apart same is a = out_apart es ds i (n - 1) (omega arith) (subst (Filled es) (sym one_less) filled) (omega arith) same is (subst (Apart es) (sym one_less) a)
-
-pub kept_listed : {K V : Type 0} (es : List (Option (Item K V))) (n : ℕ) (fits : n ≤ length es) (filled : Filled es n) (k : ℕ) → place k (somes (take n es)) ≡ n → somes (take n es) ≡ without k (somes (take n es))
-kept_listed es n fits filled k e =
-    let m = length_listed es n fits filled in
-    sym (cond-false (ltb (place k (somes (take n es))) (length (somes (take n es)))) (swapped_out (place k (somes (take n es))) (somes (take n es))) (somes (take n es)) (le-ltb _ _ (omega arith)))

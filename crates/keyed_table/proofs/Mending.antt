@@ -1,20 +1,18 @@
 -- The steps of the calls on the chains of a slice of slots.
-use Rattle.std.proofs.Common.{◌≡◌, ℕ, zero, suc, ◌+◌, ◌-◌, ◌*◌, ◌/◌, ◌%◌, ◌^◌, ◌<◌, ◌≤◌, min, Bool, true, false, cond, eqb, ltb, leb, ◌≢◌, List, [], ◌∷◌, length, get_or, set, replicate, Some, None, Option, sym, refl, ap, ◌∙◌, subst, ⊎_elim, mod-lt, mul_comm, div-lt_iff_lt-mul, mul-le-mul, mul-lt-mul_of_pos_right, arith, lit<}
-use native.Mathlib.Nat.{min-le_left, min-le_right}
-use Rattle.std.proofs.lemmas.List.{length-set, length-map, length-replicate, get_or-set_same, get_or-set_other, get_or_past, get_or_default, get_or-replicate, same_lists, set_past}
+use Rattle.std.proofs.Common.{is_some, ◌≡◌, ℕ, zero, suc, ◌+◌, ◌-◌, ◌*◌, ◌/◌, ◌%◌, ◌^◌, ◌<◌, ◌≤◌, min, Bool, true, false, cond, eqb, ltb, leb, ◌≢◌, List, length, get_or, set, replicate, Some, None, Option, sym, refl, ap, ◌∙◌, subst, ⊎_elim, mod-lt, mul_comm, div-lt_iff_lt-mul, mul-lt-mul_of_pos_right, arith, lit<}
+use native.Mathlib.Nat.{min-le_left}
+use Rattle.std.proofs.lemmas.List.{length-set, length-map, get_or-set_same, get_or-set_other, get_or_past, set_past}
 use Rattle.keys.specs.Numbers.{mixed}
 use Rattle.std.proofs.lemmas.Bool.Decides.{nat_tests}
 use Rattle.std.proofs.lemmas.Bool.{true≢false, false≢true, ne_eqb, cases_eq, cases_lt, lt-ltb, le-ltb, le-leb, eq-eqb, eqb-true, cond-true, cond-false}
 use Rattle.keyed_table.specs.declared.slots.Item.{Item}
 use Rattle.keyed_table.specs.declared.slots.Slot.{Slot}
-use Rattle.keyed_table.specs.Chains.{items, heads, nexts, home, homes, bucket, falling, held, holds_number, Linked, Chains, Above, heads_to, nexts_to, Filled, revalued, filled_gap, blank_slot}
+use Rattle.keyed_table.specs.Chains.{items, heads, nexts, height, home, homes, bucket, falling, holds_number, Linked, Chains, Above, heads_to, nexts_to, Filled, revalued, filled_gap, blank_slot}
+use Rattle.keyed_table.proofs.Listed.{none_of}
 use Rattle.keyed_table.proofs.Last.{IsLast, last_is, is_last, Walk, walk_more, walk_in, Chained, Cell, Differ, linking, unlinking, Sought, sought_none, sought_more, none_last, chained_agree}
 
 pub mixed_lt : (k : ℕ) → mixed k < 2 ^ 32
 mixed_lt k = (div-lt_iff_lt-mul {k = 2 ^ 32} {x = k * 11400714819323198485 % 2 ^ 64} {y = 2 ^ 32} (lit< tt)).1 (mod-lt (k * 11400714819323198485) (lit< tt))
-
-pub product_lt : (k m : ℕ) → mixed k * min m 4294967295 < 2 ^ 64
-product_lt k m = let x = mixed_lt k in let y = min-le_right m 4294967295 in let r = mul-le-mul {n₁ = mixed k} {m₁ = min m 4294967295} {n₂ = 4294967295} {m₂ = 4294967295} (omega arith) y in omega arith
 
 pub bucket_lt : (m k : ℕ) → 0 < m → bucket m k < m
 bucket_lt m k h =
@@ -25,23 +23,27 @@ bucket_lt m k h =
     let d : mixed k * min m 4294967295 / 2 ^ 32 < min m 4294967295 = (div-lt_iff_lt-mul {k = 2 ^ 32} {x = mixed k * min m 4294967295} {y = min m 4294967295} (lit< tt)).1 c in
     omega arith
 
-home_lt : {K V : Type 0} (m : ℕ) (o : Option (Item K V)) → home m o < m → held o ≡ true
+-- the bucket of a number, among as many as the list of what the slots hold is long
+pub bucket_in : {K V : Type 0} (s : List (Slot K V)) (k b : ℕ) → b ≡ bucket (length s) k → b ≡ bucket (length (items s)) k
+bucket_in s k b e = e ∙ ap (λ z. bucket z k) (sym (length-map s (λ z. z.item)))
+
+home_lt : {K V : Type 0} (m : ℕ) (o : Option (Item K V)) → home m o < m → is_some o ≡ true
 home_lt m None h = absurd (omega arith)
 home_lt m (Some e) h = refl
 
-pub home_none : {K V : Type 0} (m : ℕ) (o : Option (Item K V)) → held o ≡ false → home m o ≡ m
+pub home_none : {K V : Type 0} (m : ℕ) (o : Option (Item K V)) → is_some o ≡ false → home m o ≡ m
 home_none m None h = refl
 home_none m (Some e) h = absurd (true≢false h)
 
-held_in : {K V : Type 0} (es : List (Option (Item K V))) (i : ℕ) → held (get_or es i None) ≡ true → i < length es
-held_in es i h =
-    ⊎_elim (λ (z : i < length es). z) (λ (z : length es ≤ i). absurd (false≢true (ap held (sym (get_or_past es i None z)) ∙ h))) (cases_lt i (length es))
+some_in : {K V : Type 0} (es : List (Option (Item K V))) (i : ℕ) → is_some (get_or es i None) ≡ true → i < length es
+some_in es i h =
+    ⊎_elim (λ (z : i < length es). z) (λ (z : length es ≤ i). absurd (false≢true (ap is_some (sym (get_or_past es i None z)) ∙ h))) (cases_lt i (length es))
 
 module _ {K V : Type 0} (es : List (Option (Item K V))) (hs ns : List ℕ) where
   pub chained : Linked es hs ns → Chained (homes es) (λ b. get_or hs b 0) (λ i. get_or ns i 0) (length es)
   chained l =
       record {
-        inside = λ i h. held_in es i (home_lt (length es) (get_or es i None) h);
+        inside = λ i h. some_in es i (home_lt (length es) (get_or es i None) h);
         first = λ b h. subst (IsLast (homes es) b (length es)) (sym (l.0 b h)) (last_is (homes es) b (length es));
         after = λ i h. subst (IsLast (homes es) (homes es i) i) (sym (l.1 i h)) (last_is (homes es) (homes es i) i);
       }
@@ -64,45 +66,52 @@ module _ {K V : Type 0} (s : List (Slot K V)) (k : ℕ) (l : Chains s) where
   test : ℕ → Bool
   test = λ j. holds_number k (get_or (items s) j None)
 
-  in_bucket : (o : Option (Item K V)) (m : ℕ) → holds_number k o ≡ true → (home m o ≡ bucket m k) × (held o ≡ true)
+  in_bucket : (o : Option (Item K V)) (m : ℕ) → holds_number k o ≡ true → (home m o ≡ bucket m k) × (is_some o ≡ true)
   in_bucket None m e = absurd (false≢true e)
   in_bucket (Some x) m e = (ap (bucket m) (eqb-true x.number k e), refl)
 
   tested : (j : ℕ) → holds_number k (get_or (items s) j None) ≡ true → (homes (items s) j ≡ bucket (length (items s)) k) × (j < length (items s))
-  tested j e = let r = in_bucket (get_or (items s) j None) (length (items s)) e in (r.0, held_in (items s) j r.1)
+  tested j e = let r = in_bucket (get_or (items s) j None) (length (items s)) e in (r.0, some_in (items s) j r.1)
 
-  pub seek_none : 0 < length (items s) → (x b : ℕ) → b ≡ bucket (length (items s)) k → x ≡ get_or (heads s) b 0 → Sought (homes (items s)) (bucket (length (items s)) k) (length (items s)) (λ j. holds_number k (get_or (items s) j None)) x
-  seek_none h x b q e =
+  -- at the head of the bucket; where there is no slot the head is 0
+  pub seek_start : (x b : ℕ) → b ≡ bucket (length (items s)) k → x ≡ get_or (heads s) b 0 → Sought (homes (items s)) (bucket (length (items s)) k) (length (items s)) (λ j. holds_number k (get_or (items s) j None)) x
+  seek_start x b q e =
+      ⊎_elim
+      (λ (h : 0 < length (items s)).
       sought_none (homes (items s)) (bucket (length (items s)) k) (length (items s)) (λ j. holds_number k (get_or (items s) j None)) tested x
-      (subst (IsLast (homes (items s)) (bucket (length (items s)) k) (length (items s))) (sym (e ∙ ap (λ z. get_or (heads s) z 0) q)) ((chained (items s) (heads s) (nexts s) l).first _ (bucket_lt (length (items s)) k h)))
+      (subst (IsLast (homes (items s)) (bucket (length (items s)) k) (length (items s))) (sym (e ∙ ap (λ z. get_or (heads s) z 0) q)) ((chained (items s) (heads s) (nexts s) l).first _ (bucket_lt (length (items s)) k h))))
+      (λ (h : length (items s) ≤ 0).
+      let m = length-map s (λ z. z.item) in
+      let n = length-map s (λ z. height z.head) in
+      let z : x ≡ 0 = e ∙ get_or_past (heads s) b 0 (omega arith) in
+      record { low = omega arith; here = λ y i. absurd (omega arith); none = λ j _ t. let w = (tested j t).1 in absurd (omega arith) })
+      (cases_lt 0 (length (items s)))
 
   next_last : 0 < length (items s) → (y n : ℕ) → homes (items s) y ≡ bucket (length (items s)) k → n ≡ get_or (nexts s) y 0 → IsLast (homes (items s)) (homes (items s) y) y n
   next_last h y n r e =
       let b = bucket_lt (length (items s)) k h in
       subst (IsLast (homes (items s)) (homes (items s) y) y) (sym e) ((chained (items s) (heads s) (nexts s) l).after y (omega arith))
 
-  pub seek_more : (x y n : ℕ) → x ≡ suc y → Sought (homes (items s)) (bucket (length (items s)) k) (length (items s)) (λ j. holds_number k (get_or (items s) j None)) x → holds_number k (get_or (items s) y None) ≡ false → n ≡ falling y (get_or (nexts s) y 0)
+  pub seek_more : (y n : ℕ) → Sought (homes (items s)) (bucket (length (items s)) k) (length (items s)) (λ j. holds_number k (get_or (items s) j None)) (suc y) → holds_number k (get_or (items s) y None) ≡ false → n ≡ falling y (get_or (nexts s) y 0)
       → Sought (homes (items s)) (bucket (length (items s)) k) (length (items s)) (λ j. holds_number k (get_or (items s) j None)) n
-  seek_more x y n e w t q =
+  seek_more y n w t q =
       let lo = w.low in
-      let hm = w.here y e in
+      let hm = w.here y refl in
       let b = bucket_lt (length (items s)) k (omega arith) in
-      let u = next_last (omega arith) y n (w.here y e) (q ∙ followed s l y (omega arith)) in
-      sought_more (homes (items s)) (bucket (length (items s)) k) (length (items s)) (λ j. holds_number k (get_or (items s) j None)) tested y n (subst (λ (z : ℕ). Sought (homes (items s)) (bucket (length (items s)) k) (length (items s)) (λ j. holds_number k (get_or (items s) j None)) z) e w) t u
+      let u = next_last (omega arith) y n hm (q ∙ followed s l y (omega arith)) in
+      sought_more (homes (items s)) (bucket (length (items s)) k) (length (items s)) (λ j. holds_number k (get_or (items s) j None)) tested y n w t u
 
 -- ---- a walk to a gap
 module _ {K V : Type 0} (s : List (Slot K V)) (l : Chains s) (b e : ℕ) (h : b < length (items s)) where
   pub gap_none : (x : ℕ) → x ≡ get_or (heads s) b 0 → Walk (homes (items s)) b e (length (items s)) 0 x
   gap_none x q = record { top = λ _. subst (IsLast (homes (items s)) b (length (items s))) (sym q) ((chained (items s) (heads s) (nexts s) l).first b h); low = λ p z. absurd (omega arith) }
 
-  pub gap_more : (q x n : ℕ) → Walk (homes (items s)) b e (length (items s)) q x → e < x → n ≡ falling (x - 1) (get_or (nexts s) (x - 1) 0) → Walk (homes (items s)) b e (length (items s)) x n
-  gap_more q zero n w t r = absurd (omega arith)
-  gap_more q (suc y) n w t r =
+  pub gap_more : (q y n : ℕ) → Walk (homes (items s)) b e (length (items s)) q (suc y) → e < suc y → n ≡ falling y (get_or (nexts s) y 0) → Walk (homes (items s)) b e (length (items s)) (suc y) n
+  gap_more q y n w t r =
       let i = walk_in (homes (items s)) b e (length (items s)) q y w in
       let i1 = i.1 in
-      let yy : suc y - 1 ≡ y = omega arith in
       let f = followed s l y (omega arith) in
-      let u : IsLast (homes (items s)) (homes (items s) y) y n = subst (IsLast (homes (items s)) (homes (items s) y) y) (sym (r ∙ ap (λ z. falling z (get_or (nexts s) z 0)) yy ∙ f)) ((chained (items s) (heads s) (nexts s) l).after y (omega arith)) in
+      let u : IsLast (homes (items s)) (homes (items s) y) y n = subst (IsLast (homes (items s)) (homes (items s) y) y) (sym (r ∙ f)) ((chained (items s) (heads s) (nexts s) l).after y (omega arith)) in
       walk_more (homes (items s)) b e (length (items s)) q y n w (omega arith) u
 
 -- ---- the link above a gap
@@ -128,32 +137,29 @@ differ es i o j n = ap (λ m. home m (get_or (set es i o) j None)) (length-set e
 newly : {K V : Type 0} (es : List (Option (Item K V))) (i : ℕ) (o : Option (Item K V)) → i < length es → homes (set es i o) i ≡ home (length es) o
 newly es i o h = ap (λ m. home m (get_or (set es i o) i None)) (length-set es i o) ∙ ap (home (length es)) (get_or-set_same es i o None h)
 
-module _ {K V : Type 0} (s t : List (Slot K V)) (i b q x e : ℕ) (l : Chains s) (h : i < length (items s)) (end : e ≡ i + 1) where
+module _ {K V : Type 0} (s t : List (Slot K V)) (i b q x : ℕ) (l : Chains s) (h : i < length (items s)) where
   sizes : (length (heads s) ≡ length (items s)) × (length (nexts s) ≡ length (items s))
-  sizes = let a = length-map s (λ z. z.item) in let c = length-map s (λ z. z.head) in let d = length-map s (λ z. z.next) in (omega arith, omega arith)
+  sizes = let a = length-map s (λ z. z.item) in let c = length-map s (λ z. height z.head) in let d = length-map s (λ z. height z.next) in (omega arith, omega arith)
 
-  pub link_in : (n : Item K V) → b ≡ bucket (length (items s)) n.number → held (get_or (items s) i None) ≡ false → Above (homes (items s)) b e (length (items s)) q x
-      → items t ≡ set (items s) i (Some n) → heads t ≡ heads_to b q e (heads s) → nexts t ≡ nexts_to q e (set (nexts s) i x) → Chains t
+  pub link_in : (n : Item K V) → b ≡ bucket (length (items s)) n.number → is_some (get_or (items s) i None) ≡ false → Above (homes (items s)) b (suc i) (length (items s)) q x
+      → items t ≡ set (items s) i (Some n) → heads t ≡ heads_to b q (suc i) (heads s) → nexts t ≡ nexts_to q (suc i) (set (nexts s) i x) → Chains t
   link_in n bk free a ei eh en =
       let z = sizes in let z0 = z.0 in let z1 = z.1 in
-      let es : e ≡ suc i = omega arith in
       let lt = bucket_lt (length (items s)) n.number (omega arith) in
       let hb : b < length (heads s) = omega arith in
       let ls = length-set (nexts s) i x in
-      let c = linking (homes (items s)) (homes (set (items s) i (Some n))) (λ v. get_or (heads s) v 0) (λ v. get_or (nexts s) v 0) (λ v. get_or (set (nexts s) i x) v 0) (λ v. get_or (heads_to b q e (heads s)) v 0) (λ v. get_or (nexts_to q e (set (nexts s) i x)) v 0)
+      let c = linking (homes (items s)) (homes (set (items s) i (Some n))) (λ v. get_or (heads s) v 0) (λ v. get_or (nexts s) v 0) (λ v. get_or (set (nexts s) i x) v 0) (λ v. get_or (heads_to b q (suc i) (heads s)) v 0) (λ v. get_or (nexts_to q (suc i) (set (nexts s) i x)) v 0)
       (length (items s)) i b q x (differ (items s) i (Some n)) (home_none (length (items s)) (get_or (items s) i None) free) (newly (items s) i (Some n) h ∙ sym bk) (omega arith) h
-      (chained (items s) (heads s) (nexts s) l) (subst (λ (v : ℕ). Above (homes (items s)) b v (length (items s)) q x) es a)
+      (chained (items s) (heads s) (nexts s) l) a
       (get_or-set_same (nexts s) i x 0 (omega arith)) (λ p g. get_or-set_other (nexts s) i p x 0 g)
-      (subst (λ (v : ℕ). Cell (λ v. get_or (heads s) v 0) (λ v. get_or (set (nexts s) i x) v 0) (λ v. get_or (heads_to b q e (heads s)) v 0) (λ v. get_or (nexts_to q e (set (nexts s) i x)) v 0) b q v) es
-      (cell (heads s) (set (nexts s) i x) b q e hb (λ p g. let w = a.at p g in let w1 = w.1 in omega arith))) in
-      rw (ei, eh, en) (linked (set (items s) i (Some n)) (heads_to b q e (heads s)) (nexts_to q e (set (nexts s) i x))
-      (subst (Chained (homes (set (items s) i (Some n))) (λ v. get_or (heads_to b q e (heads s)) v 0) (λ v. get_or (nexts_to q e (set (nexts s) i x)) v 0)) (sym (length-set (items s) i (Some n))) c))
+      (cell (heads s) (set (nexts s) i x) b q (suc i) hb (λ p g. let w = a.at p g in let w1 = w.1 in omega arith)) in
+      rw (ei, eh, en) (linked (set (items s) i (Some n)) (heads_to b q (suc i) (heads s)) (nexts_to q (suc i) (set (nexts s) i x))
+      (subst (Chained (homes (set (items s) i (Some n))) (λ v. get_or (heads_to b q (suc i) (heads s)) v 0) (λ v. get_or (nexts_to q (suc i) (set (nexts s) i x)) v 0)) (sym (length-set (items s) i (Some n))) c))
 
-  pub link_out : (n : Item K V) → b ≡ bucket (length (items s)) n.number → Some n ≡ get_or (items s) i None → Above (homes (items s)) b e (length (items s)) q x
+  pub link_out : (n : Item K V) → b ≡ bucket (length (items s)) n.number → Some n ≡ get_or (items s) i None → Above (homes (items s)) b (suc i) (length (items s)) q x
       → (y : ℕ) → y ≡ falling i (get_or (nexts s) i 0) → items t ≡ set (items s) i None → heads t ≡ heads_to b q y (heads s) → nexts t ≡ nexts_to q y (nexts s) → Chains t
   link_out n bk used a v ev ei eh' en' =
       let z = sizes in let z0 = z.0 in let z1 = z.1 in
-      let es : e ≡ suc i = omega arith in
       let lt = bucket_lt (length (items s)) n.number (omega arith) in
       let hb : b < length (heads s) = omega arith in
       let y = get_or (nexts s) i 0 in
@@ -163,28 +169,12 @@ module _ {K V : Type 0} (s t : List (Slot K V)) (i b q x e : ℕ) (l : Chains s)
       let en : nexts t ≡ nexts_to q (get_or (nexts s) i 0) (nexts s) = en' ∙ ap (λ z. nexts_to q z (nexts s)) vy in
       let c = unlinking (homes (items s)) (homes (set (items s) i None)) (λ v. get_or (heads s) v 0) (λ v. get_or (nexts s) v 0) (λ v. get_or (heads_to b q y (heads s)) v 0) (λ v. get_or (nexts_to q y (nexts s)) v 0)
       (length (items s)) i b q x (differ (items s) i None) hm (newly (items s) i None h) (omega arith)
-      (chained (items s) (heads s) (nexts s) l) (subst (λ (v : ℕ). Above (homes (items s)) b v (length (items s)) q x) es a)
+      (chained (items s) (heads s) (nexts s) l) a
       (cell (heads s) (nexts s) b q y hb (λ p g. let w = a.at p g in let w1 = w.1 in omega arith)) in
       rw (ei, eh, en) (linked (set (items s) i None) (heads_to b q y (heads s)) (nexts_to q y (nexts s))
       (subst (Chained (homes (set (items s) i None)) (λ v. get_or (heads_to b q y (heads s)) v 0) (λ v. get_or (nexts_to q y (nexts s)) v 0)) (sym (length-set (items s) i None)) c))
 
-pub seek_empty : {K V : Type 0} (s : List (Slot K V)) (k : ℕ) → length s ≡ 0 → (j : ℕ) → holds_number k (get_or (items s) j None) ≡ true → ⊥
-seek_empty [] k e j h = false≢true h
-seek_empty (x ∷ xs) k e j h = omega arith
-
 -- ---- slots that are blanked
-pub blank_more : {X : Type 0} (s : List X) (i : ℕ) (x b : X) → x ≡ b → i < length s → ((k : ℕ) → k < i → get_or s k b ≡ b) → (k : ℕ) → k < i + 1 → get_or (set s i x) k b ≡ b
-blank_more s i x b e h n k g =
-    ⊎_elim
-    (λ (q : k ≡ i). ap (λ z. get_or (set s i x) z b) q ∙ get_or-set_same s i x b h ∙ e)
-    (λ (q : k ≢ i). get_or-set_other s i k x b q ∙ n k (omega arith))
-    (cases_eq k i)
-
-pub blank_all : {X : Type 0} (s : List X) (n : ℕ) (b : X) → length s ≡ n → ((k : ℕ) → k < n → get_or s k b ≡ b) → s ≡ replicate n b
-blank_all s n b e f =
-    let r = length-replicate n b in
-    same_lists s (replicate n b) (omega arith) (λ j x h. get_or_default s j x b h ∙ f j (omega arith) ∙ sym (get_or-replicate n j b x (omega arith)))
-
 module _ (K V : Type 0) where
   no_item : (n k : ℕ) → get_or (items {K = K} {V = V} (replicate n blank_slot)) k None ≡ None
   no_item zero k = refl
@@ -205,7 +195,7 @@ clean s a h =
 
 -- a slice of blank slots holds nothing, and its chains are right
 pub blank_filled : {K V : Type 0} (s : List (Slot K V)) (n : ℕ) → s ≡ replicate n blank_slot → Filled (items s) 0
-blank_filled {K} {V} s n e i = ap (λ z. held (get_or (items z) i None)) e ∙ ap held (no_item K V n i) ∙ sym (le-ltb i 0 (omega arith))
+blank_filled {K} {V} s n e i = ap (λ z. is_some (get_or (items z) i None)) e ∙ ap is_some (no_item K V n i) ∙ sym (le-ltb i 0 (omega arith))
 
 pub blank_linked : {K V : Type 0} (s : List (Slot K V)) (n : ℕ) → s ≡ replicate n blank_slot → Chains s
 blank_linked {K} {V} s n e = clean s (λ k. ap (λ z. get_or (items z) k None) e ∙ no_item K V n k) (λ k. ap (λ z. get_or (heads z) k 0) e ∙ no_head K V n k)
@@ -233,13 +223,9 @@ revalue s t i v l ei eh en =
     (chained_agree (homes (items s)) (homes (set (items s) i (revalued v (get_or (items s) i None)))) (λ b. get_or (heads s) b 0) (λ b. get_or (nexts s) b 0) (length (items s)) (homes_revalued (items s) i v) (chained (items s) (heads s) (nexts s) l))))
 
 -- ---- the last item fills the gap
-held_none : {K V : Type 0} (o : Option (Item K V)) → held o ≡ false → o ≡ None
-held_none None h = refl
-held_none (Some e) h = absurd (true≢false h)
-
 module _ {K V : Type 0} (es : List (Option (Item K V))) (i m : ℕ) (filled : Filled es (m + 1)) (low : i ≤ m) (range : m < length es) where
   past : (j : ℕ) → m < j → get_or es j None ≡ None
-  past j h = held_none (get_or es j None) (filled j ∙ le-ltb j (m + 1) (omega arith))
+  past j h = none_of (get_or es j None) (filled j ∙ le-ltb j (m + 1) (omega arith))
 
   gap_low : (j : ℕ) → j < m → filled_gap es i m j ≡ get_or es (cond (eqb j i) m j) None
   gap_low j h = cond-true (ltb j m) (get_or es (cond (eqb j i) m j) None) None (lt-ltb j m h)
@@ -277,9 +263,6 @@ module _ {K V : Type 0} (es : List (Option (Item K V))) (i m : ℕ) (filled : Fi
       (cases_lt j m))
       (cases_eq j i)
 
-  pub last_there : None ≡ get_or es m None → ⊥
-  last_there e = false≢true (ap held e ∙ filled m ∙ lt-ltb m (m + 1) (omega arith))
-
 -- ---- between the steps of a removal
 module _ {K V : Type 0} (es ds fs : List (Option (Item K V))) (i m : ℕ) (low : i < m) (range : m < length es) (is : ds ≡ set es i None) where
   pub mid_range : m < length ds
@@ -288,5 +271,5 @@ module _ {K V : Type 0} (es ds fs : List (Option (Item K V))) (i m : ℕ) (low :
   pub end_range : fs ≡ set ds m None → i < length fs
   end_range q = let a = ap length is in let b = length-set es i None in let c = ap length q in let d = length-set ds m None in omega arith
 
-  pub end_free : fs ≡ set ds m None → held (get_or fs i None) ≡ false
-  end_free q = let n : i ≢ m = omega arith in ap (λ z. held (get_or z i None)) q ∙ ap held (get_or-set_other ds m i None None n) ∙ ap (λ z. held (get_or z i None)) is ∙ ap held (get_or-set_same es i None None (omega arith))
+  pub end_free : fs ≡ set ds m None → is_some (get_or fs i None) ≡ false
+  end_free q = let n : i ≢ m = omega arith in ap (λ z. is_some (get_or z i None)) q ∙ ap is_some (get_or-set_other ds m i None None n) ∙ ap (λ z. is_some (get_or z i None)) is ∙ ap is_some (get_or-set_same es i None None (omega arith))

@@ -1,5 +1,6 @@
 -- How the slots hold the items, and the chains of the buckets.
-use Rattle.std.specs.Prelude.{◌≡◌, ℕ, zero, suc, ◌-◌, ◌*◌, ◌/◌, ◌^◌, ◌<◌, ◌≤◌, min, Bool, true, false, cond, List, [], ◌∷◌, map, length, take, Some, None, Option, ◌==◌, ◌≢◌, nat_le, nat_lt, slice_index, slice_index_or, slice_set}
+use Rattle.std.specs.Prelude.{is_some, ◌≡◌, ℕ, zero, suc, ◌-◌, ◌*◌, ◌/◌, ◌^◌, ◌<◌, ◌≤◌, min, Bool, false, cond, List, [], ◌∷◌, map, length, take, Some, None, Option, ◌==◌, ◌≢◌, nat_le, nat_lt, slice_index, slice_index_or, slice_set}
+use Rattle.std.specs.Option.{option_map}
 use Rattle.keys.specs.Numbers.{mixed}
 use Rattle.keyed_table.specs.Listing.{with_value}
 use Rattle.keyed_table.specs.declared.slots.Item.{Item}
@@ -15,7 +16,12 @@ bucket n k = mixed k * room_of n / 2 ^ 32
 
 -- a slot that holds nothing
 abbrev pub blank_slot : {K V : Type 0} → Slot K V
-blank_slot = record { item = None; head = 0; next = 0 }
+blank_slot = record { item = None; head = None; next = None }
+
+-- a link as a number, so that links compare as positions do: one more than the position that it leads to; 0 where it leads nowhere
+abbrev pub height : Option ℕ → ℕ
+height None = 0
+height (Some p) = suc p
 
 -- one more than the last position below p that f sends to b, or 0
 abbrev pub last : (ℕ → ℕ) → ℕ → ℕ → ℕ
@@ -27,10 +33,10 @@ abbrev pub items : {K V : Type 0} → List (Slot K V) → List (Option (Item K V
 items = map (λ s. s.item)
 
 abbrev pub heads : {K V : Type 0} → List (Slot K V) → List ℕ
-heads = map (λ s. s.head)
+heads = map (λ s. height s.head)
 
 abbrev pub nexts : {K V : Type 0} → List (Slot K V) → List ℕ
-nexts = map (λ s. s.next)
+nexts = map (λ s. height s.next)
 
 -- the bucket of what a slot holds, among m; m where it holds nothing
 abbrev pub home : {K V : Type 0} → ℕ → Option (Item K V) → ℕ
@@ -53,11 +59,6 @@ Threaded es ns = (i : ℕ) → homes es i < length es → slice_index ns i ≡ l
 abbrev pub Linked : {K V : Type 0} → List (Option (Item K V)) → List ℕ → List ℕ → Type 0
 Linked es hs ns = Headed es hs × Threaded es ns
 
--- whether a slot holds an item
-abbrev pub held : {K V : Type 0} → Option (Item K V) → Bool
-held None = false
-held (Some e) = true
-
 -- the number of what a slot holds
 abbrev pub number_of : {K V : Type 0} → Option (Item K V) → ℕ
 number_of None = 0
@@ -65,7 +66,7 @@ number_of (Some e) = e.number
 
 -- exactly the first n slots hold an item
 abbrev pub Filled : {K V : Type 0} → List (Option (Item K V)) → ℕ → Type 0
-Filled es n = (i : ℕ) → held (slice_index_or es i None) ≡ nat_lt i n
+Filled es n = (i : ℕ) → is_some (slice_index_or es i None) ≡ nat_lt i n
 
 abbrev pub numbers : {K V : Type 0} → List (Option (Item K V)) → ℕ → ℕ
 numbers es i = number_of (slice_index_or es i None)
@@ -110,12 +111,10 @@ somes (Some x ∷ l) = x ∷ somes l
 
 -- the value in a slot, and the slot with another value
 abbrev pub value_in : {K V : Type 0} → Option (Item K V) → Option V
-value_in None = None
-value_in (Some e) = Some e.value
+value_in = option_map (λ e. e.value)
 
 abbrev pub revalued : {K V : Type 0} → V → Option (Item K V) → Option (Item K V)
-revalued v None = None
-revalued v (Some e) = Some (with_value v e)
+revalued v = option_map (with_value v)
 
 -- the items of the first n slots
 abbrev pub listed : {K V : Type 0} → List (Slot K V) → ℕ → List (Item K V)

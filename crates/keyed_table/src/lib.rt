@@ -9,3 +9,4 @@ pub mod table;
 
 pub use slots::{Full, Item, Slot};
 pub use table::KeyedTable;
+pub use table::items::Items;

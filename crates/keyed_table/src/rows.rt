@@ -1,51 +1,27 @@
 // The items in the first slots, and the steps of a table's calls on them.
 ghost use Rattle.std.specs.Prelude.{◌≡◌, ℕ, ◌+◌, ◌^◌, ◌<◌, ◌≤◌, length, replicate, IfSome, Some, None, slice_index_or, slice_set};
 ghost use Rattle.keyed_table.specs.Chains.{items, listed, Kept, Chains, Filled, value_in, revalued, filled_gap, blank_slot};
-ghost use Rattle.keyed_table.specs.Listing.{found};
 
-use crate::chains::{find, item_at, link, set_item, unlink};
+use crate::chains::{item_at, link, set_item, unlink};
 use crate::slots::{Item, Slot};
 
 // Makes every slot blank.
 pub(crate) fn blank_all<K: Copy, V: Copy>(slots: &mut [Slot<K, V>])
     ensures { slots.new ≡ replicate (length slots.old) blank_slot }
 {
-    for i in 0..slots.len() {
-        slots[i] = Slot::blank();
-    }
-}
-
-// The position of a number among the first `len` slots.
-pub(crate) fn place_of<K: Copy, V: Copy>(slots: &[Slot<K, V>], len: u32, number: u64) -> Option<u32>
-    ensures within { IfSome result (λ i. i < len) }
-    ensures found { Kept slots.now len → result ≡ found number (listed slots.now len) }
-{
-    match find(slots, number) {
-        Some(i) => { if i < len { Some(i) } else { None } }
-        None => None,
-    }
+    slots.fill(Slot::blank());
 }
 
 pub(crate) fn value_in<K: Copy, V: Copy>(item: Option<Item<K, V>>) -> Option<V>
     ensures { result ≡ value_in item }
 {
-    match item {
-        Some(e) => Some(e.value),
-        None => None,
-    }
+    item.map(|item| item.value)
 }
 
 fn with_value<K: Copy, V: Copy>(item: Option<Item<K, V>>, value: V) -> Option<Item<K, V>>
     ensures { result ≡ revalued value item }
 {
-    match item {
-        Some(e) => Some(Item {
-            number: e.number,
-            key: e.key,
-            value,
-        }),
-        None => None,
-    }
+    item.map(|item| Item { value, ..item })
 }
 
 // Writes the value of the item in a slot, and answers the one that stood there.
@@ -61,16 +37,16 @@ pub(crate) fn replace<K: Copy, V: Copy>(slots: &mut [Slot<K, V>], i: u32, value:
 
 // Takes the item at `i` out; the one at `last` fills the gap.
 pub(crate) fn take_out<K: Copy, V: Copy>(slots: &mut [Slot<K, V>], i: u32, last: u32)
-    requires { (i ≤ last) × (last + 1 < 2 ^ 32) }
+    requires { i ≤ last }
     ensures linked { Chains slots.old → last < length (items slots.old) → Chains slots.new }
     ensures items { Filled (items slots.old) (last + 1) → last < length (items slots.old) → (j : ℕ) → slice_index_or (items slots.new) j None ≡ filled_gap (items slots.old) i last j }
 {
     let moved = item_at(slots, last);
     unlink(slots, i);
     if i < last {
-        if let Some(e) = moved {
+        if let Some(item) = moved {
             unlink(slots, last);
-            link(slots, i, e);
+            link(slots, i, item);
         }
     }
 }

@@ -1,8 +1,11 @@
-ghost use Rattle.std.specs.Prelude.{◌≡◌};
+ghost use Rattle.std.specs.Prelude.{◌≡◌, Some, codes};
 ghost use Rattle.keyed_table.specs.Chains.{blank_slot};
 
+use std::error::Error;
+use std::fmt;
+
 /// A pair of a table, with the number that its key means.
-#[derive(Clone, Copy)]
+#[derive(Clone, Copy, PartialEq, Eq, Debug)]
 pub struct Item<K, V> {
     pub number: u64,
     pub key: K,
@@ -13,10 +16,10 @@ pub struct Item<K, V> {
 #[derive(Clone, Copy)]
 pub struct Slot<K, V> {
     pub(crate) item: Option<Item<K, V>>,
-    // one more than the last position of the bucket with this slot's index; 0: none
-    pub(crate) head: u32,
-    // one more than the next lower position in this item's bucket; 0: none
-    pub(crate) next: u32,
+    // the last position of the bucket with this slot's index
+    pub(crate) head: Option<u32>,
+    // the next lower position in this item's bucket
+    pub(crate) next: Option<u32>,
 }
 
 impl<K, V> Slot<K, V> {
@@ -26,12 +29,22 @@ impl<K, V> Slot<K, V> {
     {
         Slot {
             item: None,
-            head: 0,
-            next: 0,
+            head: None,
+            next: None,
         }
     }
 }
 
 /// The answer of a table that has no place for a new key.
-#[derive(Clone, Copy)]
+#[derive(Clone, Copy, PartialEq, Eq, Debug)]
 pub struct Full;
+
+impl fmt::Display for Full {
+    ghost output = { λ _. Some (codes "the table is full") };
+
+    fn fmt<W: fmt::Write>(&self, f: &mut fmt::Formatter<W>) -> fmt::Result {
+        write!(f, "the table is full")
+    }
+}
+
+impl Error for Full {}

@@ -5,7 +5,7 @@ ghost use Rattle.std.proofs.Common.{rules};
 use crate::key::{Key, NodeKey};
 
 /// The two ends of an arc.
-#[derive(Clone, Copy)]
+#[derive(Clone, Copy, PartialEq, Eq, Debug)]
 pub struct Ends<N> {
     pub source: N,
     pub target: N,
@@ -19,8 +19,8 @@ impl<N: NodeKey> Key for Ends<N> {
     ghost apart = { Prim.search rules };
 
     fn number(&self) -> u64 {
-        let source = self.source.node_index().get() as u64;
-        let target = self.target.node_index().get() as u64;
+        let source = u64::from(self.source.node_index().get());
+        let target = u64::from(self.target.node_index().get());
         source * 4_294_967_296 + target
     }
 }

@@ -1,7 +1,7 @@
 ghost use Rattle.std.specs.Prelude.{◌≡◌, ◌^◌, ◌<◌};
 
 /// Counts the working entries of an ordering. It names no node.
-#[derive(Clone, Copy)]
+#[derive(Clone, Copy, PartialEq, Eq, Debug)]
 pub struct FasNodeIndex {
     value: u32,
     ghost small: { value < 2 ^ 32 },

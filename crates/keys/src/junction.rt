@@ -1,11 +1,13 @@
-ghost use Rattle.std.specs.Prelude.{◌≡◌, ◌^◌, ◌<◌};
+ghost use Rattle.std.specs.Prelude.{◌≡◌, ◌^◌, ◌<◌, Some};
+ghost use Rattle.std.specs.Fmt.{decimal};
 ghost use Rattle.std.proofs.Common.{rules, arith};
 
 use crate::key::{Key, NodeKey};
 use crate::node_index::NodeIndex;
+use std::fmt;
 
 /// A junction by its number, which is also its index.
-#[derive(Clone, Copy)]
+#[derive(Clone, Copy, PartialEq, Eq, Debug)]
 pub struct Junction {
     value: u32,
     ghost small: { value < 2 ^ 32 },
@@ -33,7 +35,7 @@ impl Key for Junction {
     ghost apart = { Prim.grind (arith, Self.row.coded.inj) };
 
     fn number(&self) -> u64 {
-        self.get() as u64
+        u64::from(self.get())
     }
 }
 
@@ -48,5 +50,13 @@ impl NodeKey for Junction {
 
     fn node_index(&self) -> NodeIndex {
         NodeIndex::new(self.get())
+    }
+}
+
+impl fmt::Display for Junction {
+    ghost output = { λ n. Some (decimal n.value) };
+
+    fn fmt<W: fmt::Write>(&self, f: &mut fmt::Formatter<W>) -> fmt::Result {
+        write!(f, "{}", self.get())
     }
 }

@@ -11,6 +11,7 @@ pub trait Key: Copy {
     fn number(&self) -> u64
         ensures { result ≡ code self.now };
 
+    // By their numbers, on which a table's laws stand. `==` compares fields, and each key would owe that the two agree.
     /// Whether two keys mean the same.
     fn same(&self, other: &Self) -> bool
         ensures { result ≡ (code self.now == code other.now) }

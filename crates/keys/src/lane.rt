@@ -1,14 +1,16 @@
-ghost use Rattle.std.specs.Prelude.{◌≡◌, ℕ, ◌+◌, ◌*◌, ◌^◌, ◌<◌, true, false, Ok, Err};
+ghost use Rattle.std.specs.Prelude.{◌≡◌, ℕ, ◌+◌, ◌*◌, ◌^◌, ◌<◌, true, false, Some, Ok, Err};
 ghost use Rattle.fault.specs.declared.Fault.TheVariants.{LaneRange};
 ghost use Rattle.keys.specs.Numbers.{lane_index, lane_in_range};
+ghost use Rattle.keys.specs.Texts.{lane_text, record_text};
 ghost use Rattle.std.proofs.Common.{rules, arith};
 
 use crate::key::{Key, NodeKey};
 use crate::node_index::NodeIndex;
 use fault::Fault;
+use std::fmt;
 
 /// A lane of an arm of a junction: junction 0 to 16,777,215, arm 0 to 15, lane 0 to 15. No other address exists.
-#[derive(Clone, Copy)]
+#[derive(Clone, Copy, PartialEq, Eq, Debug)]
 pub struct LaneAddress {
     junction: u32,
     arm: u8,
@@ -60,7 +62,7 @@ impl LaneAddress {
             arm,
             lane,
         } = *self;
-        junction * 256 + arm as u32 * 16 + lane as u32
+        junction * 256 + u32::from(arm) * 16 + u32::from(lane)
     }
 }
 
@@ -72,7 +74,7 @@ impl Key for LaneAddress {
     ghost apart = { Prim.grind (arith, Self.row.coded.inj) };
 
     fn number(&self) -> u64 {
-        self.packed() as u64
+        u64::from(self.packed())
     }
 }
 
@@ -90,9 +92,36 @@ impl NodeKey for LaneAddress {
     }
 }
 
+// junction/arm/lane
+impl fmt::Display for LaneAddress {
+    ghost output = { λ a. Some (lane_text a.junction a.arm a.lane) };
+
+    fn fmt<W: fmt::Write>(&self, f: &mut fmt::Formatter<W>) -> fmt::Result {
+        let LaneAddress {
+            junction,
+            arm,
+            lane,
+        } = *self;
+        write!(f, "{junction}/{arm}/{lane}")
+    }
+}
+
 /// What an arc between lane addresses carries: how many lanes, and which share of the traffic turns this way, in thousandths.
-#[derive(Clone, Copy)]
+#[derive(Clone, Copy, PartialEq, Eq, Debug)]
 pub struct LaneRecord {
     pub lanes: u32,
     pub turning_share: u32,
+}
+
+// lanes,turning_share
+impl fmt::Display for LaneRecord {
+    ghost output = { λ r. Some (record_text r.lanes r.turning_share) };
+
+    fn fmt<W: fmt::Write>(&self, f: &mut fmt::Formatter<W>) -> fmt::Result {
+        let LaneRecord {
+            lanes,
+            turning_share,
+        } = *self;
+        write!(f, "{lanes},{turning_share}")
+    }
 }

@@ -1,10 +1,13 @@
-ghost use Rattle.std.specs.Prelude.{◌≡◌, ◌^◌, ◌<◌};
+ghost use Rattle.std.specs.Prelude.{◌≡◌, ◌^◌, ◌<◌, Some};
+ghost use Rattle.std.specs.Fmt.{decimal};
 ghost use Rattle.std.proofs.Common.{rules, arith};
 
 use crate::key::{Key, NodeKey};
+use std::fmt;
 
+// A type of its own, as `Junction` and `FasNodeIndex` are, though all hold a `u32`: none can be taken for another.
 /// Names a node of a network.
-#[derive(Clone, Copy)]
+#[derive(Clone, Copy, PartialEq, Eq, Debug)]
 pub struct NodeIndex {
     value: u32,
     ghost small: { value < 2 ^ 32 },
@@ -32,7 +35,7 @@ impl Key for NodeIndex {
     ghost apart = { Prim.grind (arith, Self.row.coded.inj) };
 
     fn number(&self) -> u64 {
-        self.get() as u64
+        u64::from(self.get())
     }
 }
 
@@ -47,5 +50,13 @@ impl NodeKey for NodeIndex {
 
     fn node_index(&self) -> NodeIndex {
         *self
+    }
+}
+
+impl fmt::Display for NodeIndex {
+    ghost output = { λ n. Some (decimal n.value) };
+
+    fn fmt<W: fmt::Write>(&self, f: &mut fmt::Formatter<W>) -> fmt::Result {
+        write!(f, "{}", self.get())
     }
 }

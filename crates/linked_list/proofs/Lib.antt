@@ -1,6 +1,5 @@
 pub mod Members
 pub mod Reading
-pub mod Writing
 pub mod Linking
 pub mod Splicing
 pub mod Removing

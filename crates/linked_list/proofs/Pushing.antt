@@ -1,33 +1,35 @@
 -- What a push comes to for every list.
 use Rattle.std.proofs.Common.{◌≡◌, ℕ, ◌<◌, true, false, not, ◌&&◌, ltb, ◌≢◌, List, [], ◌∷◌, length, Some, None, Option, sym, refl, ap, ◌∙◌, subst, arith}
-use Rattle.linked_list.specs.declared.position.Position.{Position}
-use Rattle.linked_list.specs.declared.position.Position.TheVariants.{Free, In}
 use Rattle.std.proofs.lemmas.List.{length-set, get_or-set_same, get_or-set_other}
-use Rattle.std.proofs.lemmas.Bool.{and_parts, and_from, not-true, ltb-true, true≢false}
-use Rattle.linked_list.specs.Places.{is_in, is_none, prev_of, next_of, with_prev, at, prev_set}
+use Rattle.std.proofs.lemmas.Bool.{and_parts, and_from, not-true, ltb-true}
+use Rattle.std.specs.Option.{is_none}
+use Rattle.linked_list.specs.Places.{Position, enlisted, is_in, prev_of, next_of, with_prev, at, prev_set}
 use Rattle.linked_list.specs.Chains.{has, first, Chain, Holds, Other, is_front, can_push, after_push}
 use Rattle.linked_list.specs.Laws.{Becomes, OthersStay, StatusStays}
 use Rattle.linked_list.proofs.Members.{none_cons}
-use Rattle.linked_list.proofs.Reading.{prev_set_length, prev_set_in, prev_set_here}
+use Rattle.linked_list.proofs.Reading.{changed_length, changed_in, changed_here}
 use Rattle.linked_list.proofs.Linking.{free_is, free_not_in, not_shared, chain_set, frame}
 
 -- i is there and free, and nothing stands before the start
 pub record Pushable (L : List Position) (start : Option ℕ) (i : ℕ) : Type 0 where
   pub there : i < length L
-  pub free : at L i ≡ Free
-  pub fronts : (k : ℕ) → start ≡ Some k → at L k ≡ In None (next_of (at L k))
+  pub free : at L i ≡ None
+  pub fronts : (k : ℕ) → start ≡ Some k → at L k ≡ enlisted None (next_of (at L k))
 
-lone_is : (p : Position) → is_in p ≡ true → is_none (prev_of p) ≡ true → p ≡ In None (next_of p)
-lone_is Free e f = absurd (true≢false (sym e))
-lone_is (In None n) e f = refl
-lone_is (In (Some q) n) e f = absurd (true≢false (sym f))
+none_is : (o : Option ℕ) → is_none o ≡ true → o ≡ None
+none_is None e = refl
+none_is (Some i) e = cc
 
-front_is : (L : List Position) (start : Option ℕ) → is_front L start ≡ true → (k : ℕ) → start ≡ Some k → at L k ≡ In None (next_of (at L k))
-front_is L None h k e = let z : ◌≡◌ {A = ℕ} 0 1 = cc in absurd (omega arith)
+lone_is : (p : Position) → is_in p ≡ true → is_none (prev_of p) ≡ true → p ≡ enlisted None (next_of p)
+lone_is None e f = cc
+lone_is (Some p) e f = ap (λ q. enlisted q p.next) (none_is p.prev f)
+
+front_is : (L : List Position) (start : Option ℕ) → is_front L start ≡ true → (k : ℕ) → start ≡ Some k → at L k ≡ enlisted None (next_of (at L k))
+front_is L None h k e = cc
 front_is L (Some j) h k e =
     let a = and_parts (is_in (at L j)) (is_none (prev_of (at L j))) h in
     let q : j ≡ k = cc in
-    subst (λ w. at L w ≡ In None (next_of (at L w))) q (lone_is (at L j) a.0 a.1)
+    subst (λ w. at L w ≡ enlisted None (next_of (at L w))) q (lone_is (at L j) a.0 a.1)
 
 pub pushable : (L : List Position) (start : Option ℕ) (i : ℕ) → can_push L start i ≡ true → Pushable L start i
 pushable L start i h =
@@ -46,16 +48,16 @@ pub push_granted : (L : List Position) (s : Option ℕ) (l : List ℕ) (i : ℕ)
 push_granted L s l i h = let e = holds_front L s l h in grind arith
 
 pub push_length : (L : List Position) (start : Option ℕ) (i : ℕ) → length (after_push L start i) ≡ length L
-push_length L start i = length-set (prev_set L start (Some i)) i (In None start) ∙ prev_set_length L start (Some i)
+push_length L start i = length-set (prev_set L start (Some i)) i (enlisted None start) ∙ changed_length _ L start
 
 pub push_in : (L : List Position) (start : Option ℕ) (i j : ℕ) → j ≢ i → is_in (at (after_push L start i) j) ≡ is_in (at L j)
-push_in L start i j ne = ap is_in (get_or-set_other (prev_set L start (Some i)) i j (In None start) Free ne) ∙ prev_set_in L start (Some i) j
+push_in L start i j ne = ap is_in (get_or-set_other (prev_set L start (Some i)) i j (enlisted None start) None ne) ∙ changed_in _ L start j
 
-pub push_comes : (L : List Position) (start : Option ℕ) (i : ℕ) → can_push L start i ≡ true → at (after_push L start i) i ≡ In None start
+pub push_comes : (L : List Position) (start : Option ℕ) (i : ℕ) → can_push L start i ≡ true → at (after_push L start i) i ≡ enlisted None start
 push_comes L start i h =
     let r : i < length L = (pushable L start i h).there in
-    let e : length (prev_set L start (Some i)) ≡ length L = prev_set_length L start (Some i) in
-    get_or-set_same (prev_set L start (Some i)) i (In None start) Free (omega arith)
+    let e : length (prev_set L start (Some i)) ≡ length L = changed_length _ L start in
+    get_or-set_same (prev_set L start (Some i)) i (enlisted None start) None (omega arith)
 
 -- a list that start does not name has another prev nowhere
 frame_prev : (L : List Position) (o x s : Option ℕ) (m : List ℕ) → Holds L s m → ((k : ℕ) → o ≡ Some k → has m k ≡ false) → Holds (prev_set L o x) s m
@@ -65,30 +67,30 @@ frame_prev L (Some k) x s m h f = frame L s m k (with_prev (at L k) x) h (f k re
 pub pushed_other : (L : List Position) (start : Option ℕ) (i : ℕ) → can_push L start i ≡ true → (s : Option ℕ) (m : List ℕ) → Holds L s m → Other s start → Holds (after_push L start i) s m
 pushed_other L start i h s m k o =
     let p = pushable L start i h in
-    frame (prev_set L start (Some i)) s m i (In None start)
+    frame (prev_set L start (Some i)) s m i (enlisted None start)
     (frame_prev L start (Some i) s m k (λ j e. not_shared L j (next_of (at L j)) s m (p.fronts j e) k (λ q. o j q e)))
     (free_not_in L None m i k.linked p.free)
 
 pub pushed_list : (L : List Position) (start : Option ℕ) (i : ℕ) → can_push L start i ≡ true → (l : List ℕ) → Holds L start l → Holds (after_push L start i) (Some i) (i ∷ l)
 pushed_list L start i h [] k =
-    record { starts = refl; linked = (push_comes L start i h ∙ ap (In None) k.starts, refl, tt) }
+    record { starts = refl; linked = (push_comes L start i h ∙ ap (enlisted None) k.starts, refl, tt) }
 pushed_list L start i h (x ∷ l) k =
     let p = pushable L start i h in
     let s : start ≡ Some x = k.starts in
-    let c0 : at L x ≡ In None (first l) = k.linked.0 in
+    let c0 : at L x ≡ enlisted None (first l) = k.linked.0 in
     let W = prev_set L start (Some i) in
-    let f : at L i ≡ Free = p.free in
+    let f : at L i ≡ None = p.free in
     let nl : has l i ≡ false = free_not_in L (Some x) l i k.linked.2 f in
-    let ne : i ≢ x = λ q. let z : ◌≡◌ {A = ℕ} 0 1 = cc in omega arith in
+    let ne : i ≢ x = λ q. cc in
     record {
       starts = refl;
       linked = (
-        push_comes L start i h ∙ ap (In None) s,
+        push_comes L start i h ∙ ap (enlisted None) s,
         none_cons x l i ne nl,
         (
-          get_or-set_other W i x (In None start) Free (λ q. ne (sym q)) ∙ prev_set_here L start (Some i) x s ∙ ap (λ v. with_prev v (Some i)) c0,
+          get_or-set_other W i x (enlisted None start) None (λ q. ne (sym q)) ∙ changed_here _ L start x s ∙ ap (λ v. with_prev v (Some i)) c0,
           k.linked.1,
-          chain_set W (Some x) l i (In None start)
+          chain_set W (Some x) l i (enlisted None start)
               (subst (λ w. Chain (prev_set L w (Some i)) (Some x) l) (sym s) (chain_set L (Some x) l x (with_prev (at L x) (Some i)) k.linked.2 k.linked.1))
               nl,
         ),

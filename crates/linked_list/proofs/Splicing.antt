@@ -1,9 +1,7 @@
 -- An entry that leaves a list, with nothing or another in its place.
-use Rattle.std.proofs.Common.{◌≡◌, ℕ, true, false, ◌≢◌, List, [], ◌∷◌, ◌++◌, Some, None, Option, sym, ap, ◌∙◌, subst, ⊎_elim, arith}
-use Rattle.linked_list.specs.declared.position.Position.{Position}
-use Rattle.linked_list.specs.declared.position.Position.TheVariants.{In}
+use Rattle.std.proofs.Common.{◌≡◌, ℕ, true, false, ◌≢◌, List, [], ◌∷◌, ◌++◌, Some, None, Option, sym, ap, ◌∙◌, subst, ⊎_elim}
 use Rattle.std.proofs.lemmas.Bool.{cases_eq}
-use Rattle.linked_list.specs.Places.{prev_of, next_of, with_prev, with_next, at}
+use Rattle.linked_list.specs.Places.{Position, enlisted, prev_of, next_of, with_prev, with_next, at}
 use Rattle.linked_list.specs.Chains.{has, first, spliced, Chain, Holds, Other, moved}
 use Rattle.linked_list.proofs.Members.{none_first, none_rest, has_head, has_tail, first_not, spliced_here, spliced_later, none_spliced, first_spliced}
 use Rattle.linked_list.proofs.Reading.{moved_there, moved_other, some_cases}
@@ -11,7 +9,7 @@ use Rattle.linked_list.proofs.Linking.{starts_alone}
 
 -- i stands between prev and next, which agree
 pub record Between (L : List Position) (start : Option ℕ) (i : ℕ) (prev next : Option ℕ) : Type 0 where
-  pub here : at L i ≡ In prev next
+  pub here : at L i ≡ enlisted prev next
   pub lone : prev ≡ None → start ≡ Some i
   pub far : (p : ℕ) → prev ≡ Some p → start ≡ Some i → ⊥
   pub left : (p : ℕ) → prev ≡ Some p → next_of (at L p) ≡ Some i
@@ -28,10 +26,10 @@ pub record Spliced (L M : List Position) (i : ℕ) (prev next : Option ℕ) (mid
 abbrev pub Fresh : List ℕ → List ℕ → Type 0
 Fresh mid l = (z : ℕ) → has l z ≡ true → has mid z ≡ false
 
-with_next_is : (v : Position) (a b x : Option ℕ) → v ≡ In a b → with_next v x ≡ In a x
+with_next_is : (v : Position) (a b x : Option ℕ) → v ≡ enlisted a b → with_next v x ≡ enlisted a x
 with_next_is v a b x e = ap (λ w. with_next w x) e
 
-with_prev_is : (v : Position) (a b y : Option ℕ) → v ≡ In a b → with_prev v y ≡ In y b
+with_prev_is : (v : Position) (a b y : Option ℕ) → v ≡ enlisted a b → with_prev v y ≡ enlisted y b
 with_prev_is v a b y e = ap (λ w. with_prev w y) e
 
 module _ (L M : List Position) (start : Option ℕ) (i : ℕ) (prev next : Option ℕ) (mid : List ℕ) (x y : Option ℕ)
@@ -48,30 +46,29 @@ module _ (L M : List Position) (start : Option ℕ) (i : ℕ) (prev next : Optio
         stays (Some z) l c.2 (none_rest z l i n) (λ e. none_first z l i n (cc)) (λ k h. f k (has_tail z l k h)),
       )
 
-  link : (z : ℕ) (q : Option ℕ) (l : List ℕ) → z ≢ i → has mid z ≡ false → (q ≡ Some i → ⊥) → at L z ≡ In q (first l) → Chain L (Some z) l → at M z ≡ In q (first (spliced i mid l))
+  link : (z : ℕ) (q : Option ℕ) (l : List ℕ) → z ≢ i → has mid z ≡ false → (q ≡ Some i → ⊥) → at L z ≡ enlisted q (first l) → Chain L (Some z) l → at M z ≡ enlisted q (first (spliced i mid l))
   link z q [] ne fr s e c =
-      let np : prev ≡ Some z → ⊥ = λ p. let w = b.left z p in let o : ◌≡◌ {A = ℕ} 0 1 = cc in omega arith in
+      let np : prev ≡ Some z → ⊥ = λ p. let w = b.left z p in cc in
       let nn : next ≡ Some z → ⊥ = λ n. let w = b.right z n in s (cc) in
       m.same z ne fr np nn ∙ e
   link z q (u ∷ l) ne fr s e c =
       let nn : next ≡ Some z → ⊥ = λ n. let w = b.right z n in s (cc) in
       ⊎_elim
       (λ (h : u ≡ i).
-      let c0 = c.0 in let w = b.here in
-      let p : prev ≡ Some z = cc in
-      let nl : next ≡ first l = cc in
-      m.before z ne fr p nn ∙ with_next_is (at L z) q (Some u) x e ∙ ap (In q) (m.leads l nl) ∙ ap (λ k. In q (first k)) (sym (spliced_here i mid l u h)))
+      let p : prev ≡ Some z = cc (ap prev_of c.0, ap prev_of b.here) in
+      let nl : next ≡ first l = cc (ap next_of c.0, ap next_of b.here) in
+      m.before z ne fr p nn ∙ with_next_is (at L z) q (Some u) x e ∙ ap (enlisted q) (m.leads l nl) ∙ ap (λ k. enlisted q (first k)) (sym (spliced_here i mid l u h)))
       (λ (h : u ≢ i).
       let np : prev ≡ Some z → ⊥ = λ p. let w = b.left z p in h (cc) in
-      m.same z ne fr np nn ∙ e ∙ ap (λ k. In q (first k)) (sym (spliced_later i mid l u h)))
+      m.same z ne fr np nn ∙ e ∙ ap (λ k. enlisted q (first k)) (sym (spliced_later i mid l u h)))
       (cases_eq u i)
 
   -- what follows i
-  follows : (q : Option ℕ) (l : List ℕ) → at L i ≡ In q (first l) → has l i ≡ false → Chain L (Some i) l → Fresh mid l → Chain M y l
+  follows : (q : Option ℕ) (l : List ℕ) → at L i ≡ enlisted q (first l) → has l i ≡ false → Chain L (Some i) l → Fresh mid l → Chain M y l
   follows q [] e n c f = tt
   follows q (u ∷ l) e n c f =
-      let w = b.here in let c0 = c.0 in
-      let ny : next ≡ Some u = cc in
+      let c0 = c.0 in
+      let ny : next ≡ Some u = cc (ap next_of b.here) in
       let np : prev ≡ Some u → ⊥ = λ p. let v = b.left u p in let g : first l ≡ Some i = cc in first_not l i (none_rest u l i n) g in (
         m.after u (λ h. none_first u l i n (sym h)) (f u (has_head u l)) np ny ∙ with_prev_is (at L u) (Some i) (first l) y c0,
         c.1,
@@ -83,10 +80,9 @@ module _ (L M : List Position) (start : Option ℕ) (i : ℕ) (prev next : Optio
   chain q (z ∷ l) c s f =
       ⊎_elim
       (λ (h : z ≡ i).
-      let e : at L i ≡ In q (first l) = ap (λ k. at L k) (sym h) ∙ c.0 in
-      let w = b.here in
-      let pq : prev ≡ q = cc in
-      let nl : next ≡ first l = cc in
+      let e : at L i ≡ enlisted q (first l) = ap (λ k. at L k) (sym h) ∙ c.0 in
+      let pq : prev ≡ q = cc (ap prev_of b.here) in
+      let nl : next ≡ first l = cc (ap next_of b.here) in
       let fl : Fresh mid l = λ k g. f k (has_tail z l k g) in
       subst (λ k. Chain M q k) (sym (spliced_here i mid l z h))
       (subst (λ k. Chain M k (mid ++ l)) pq
@@ -100,11 +96,10 @@ module _ (L M : List Position) (start : Option ℕ) (i : ℕ) (prev next : Optio
       (cases_eq z i)
 
   front : (l : List ℕ) → Holds L (Some i) l → x ≡ first (spliced i mid l)
-  front [] h = let a = h.starts in let z : ◌≡◌ {A = ℕ} 0 1 = cc in absurd (omega arith)
+  front [] h = cc
   front (z ∷ l) h =
-      let a = h.starts in let c0 = h.linked.0 in let w = b.here in
       let e : z ≡ i = cc in
-      let nl : next ≡ first l = cc in
+      let nl : next ≡ first l = cc (ap next_of h.linked.0, ap next_of b.here) in
       m.leads l nl ∙ ap first (sym (spliced_here i mid l z e))
 
   -- every list has mid in the place of i
@@ -115,7 +110,7 @@ module _ (L M : List Position) (start : Option ℕ) (i : ℕ) (prev next : Optio
             (λ (e : s ≡ Some i). moved_there s i x e ∙ front l (subst (λ k. Holds L k l) e h))
             (λ (n : s ≡ Some i → ⊥). moved_other s i x n ∙ h.starts ∙ sym (first_spliced i mid l (λ e. n (h.starts ∙ e))))
             (some_cases s i);
-        linked = chain None l h.linked (λ e. let z : ◌≡◌ {A = ℕ} 0 1 = cc in omega arith) f;
+        linked = chain None l h.linked (λ e. cc) f;
       }
 
   -- i is the first of no list but the one at start

@@ -1,9 +1,7 @@
 -- What comes of putting the first entry where another stood.
 use Rattle.std.proofs.Common.{◌≡◌, ℕ, ◌<◌, true, false, eqb, ◌≢◌, List, [], ◌∷◌, length, Some, None, Option, sym, refl, ap, ◌∙◌, subst, ⊎_elim, arith}
-use Rattle.linked_list.specs.declared.position.Position.{Position}
-use Rattle.linked_list.specs.declared.position.Position.TheVariants.{Free, In}
-use Rattle.std.proofs.lemmas.Bool.{cases_eq, and_parts, and_from, eq-eqb, ne_eqb, cond-true, cond-false, false≢true}
-use Rattle.linked_list.specs.Places.{is_in, prev_of, next_of, with_prev, at}
+use Rattle.std.proofs.lemmas.Bool.{cases_eq, and_parts, and_from, eq-eqb, ne_eqb, cond-true, cond-false}
+use Rattle.linked_list.specs.Places.{Position, enlisted, is_in, prev_of, next_of, with_prev, at}
 use Rattle.linked_list.specs.Chains.{has, rest, replaced, swap_removed, Holds, Other, can_remove, after_remove, after_replace, moved, can_swap, after_swap, start_after_swap}
 use Rattle.linked_list.specs.Laws.{Becomes, OthersBecome, OthersStayIfListed, StatusStays}
 use Rattle.linked_list.proofs.Members.{spliced_none, has_first}
@@ -15,14 +13,14 @@ use Rattle.linked_list.proofs.Popping.{front_alone, front_list, front_other}
 
 -- ---- with the first entry f taken out, i stands between its neighbours still
 module _ (L : List Position) (f i : ℕ) (hf : can_remove L (Some f) f ≡ true) (hi : can_remove L (Some f) i ≡ true) (ne : f ≢ i) where
-  lone : at L f ≡ In None (next_of (at L f))
+  lone : at L f ≡ enlisted None (next_of (at L f))
   lone = front_alone L f hf
 
   no_prev : prev_of (at L f) ≡ None
   no_prev = ap prev_of lone
 
   no_before : (z : ℕ) → prev_of (at L f) ≡ Some z → ⊥
-  no_before z e = let a = no_prev in let o : ◌≡◌ {A = ℕ} 0 1 = cc in omega arith
+  no_before z e = cc no_prev
 
   back : (n : ℕ) → next_of (at L f) ≡ Some n → prev_of (at L n) ≡ Some f
   back = (between L (Some f) f hf).right
@@ -37,17 +35,17 @@ module _ (L : List Position) (f i : ℕ) (hf : can_remove L (Some f) f ≡ true)
       (some_cases (next_of (at L f)) z)
 
   still : (p n : Option ℕ) → Between L (Some f) i p n → can_remove (after_remove L f) (next_of (at L f)) i ≡ true
-  still None n b = absurd (let a = b.lone refl in ne (cc))
+  still None n b = absurd (ne (cc (b.lone refl)))
   still (Some p) n b = ⊎_elim
       (λ (e : p ≡ f).
       let led : next_of (at L f) ≡ Some i = ap (λ z. next_of (at L z)) (sym e) ∙ b.left p refl in
-      let here : at L i ≡ In (Some p) n = b.here in
+      let here : at L i ≡ enlisted (Some p) n = b.here in
       let ip : prev_of (at L i) ≡ Some p = ap prev_of here in
       can_of (after_remove L f) (next_of (at L f)) i None n (record {
-        here = (remove_spliced L f).after i (λ q. ne (sym q)) refl (no_before i) led ∙ ap (λ z. with_prev z (prev_of (at L f))) here ∙ ap (λ z. In z n) no_prev;
+        here = (remove_spliced L f).after i (λ q. ne (sym q)) refl (no_before i) led ∙ ap (λ z. with_prev z (prev_of (at L f))) here ∙ ap (λ z. enlisted z n) no_prev;
         lone = λ _. led;
-        far = λ q w. absurd (let o : ◌≡◌ {A = ℕ} 0 1 = cc in omega arith);
-        left = λ q w. absurd (let o : ◌≡◌ {A = ℕ} 0 1 = cc in omega arith);
+        far = λ q w. cc;
+        left = λ q w. cc;
         right = λ k w.
             let r : prev_of (at L k) ≡ Some i = b.right k w in
             let nf : k ≢ f = λ q. no_before i (ap (λ z. prev_of (at L z)) (sym q) ∙ r) in
@@ -55,12 +53,12 @@ module _ (L : List Position) (f i : ℕ) (hf : can_remove L (Some f) f ≡ true)
             ap prev_of (other k nf ni) ∙ r;
       }))
       (λ (d : p ≢ f).
-      let here : at L i ≡ In (Some p) n = b.here in
+      let here : at L i ≡ enlisted (Some p) n = b.here in
       let ip : prev_of (at L i) ≡ Some p = ap prev_of here in
       let not-led : next_of (at L f) ≡ Some i → ⊥ = λ q. let r = back i q in d (cc) in
       can_of (after_remove L f) (next_of (at L f)) i (Some p) n (record {
         here = other i (λ q. ne (sym q)) not-led ∙ here;
-        lone = λ w. absurd (let o : ◌≡◌ {A = ℕ} 0 1 = cc in omega arith);
+        lone = λ w. cc;
         far = λ q w s. not-led s;
         left = λ q w. let pq : p ≡ q = cc in ap (λ z. next_of (at (after_remove L f) z)) (sym pq) ∙ nexts p d ∙ b.left p refl;
         right = λ k w.
@@ -81,7 +79,7 @@ module _ (L : List Position) (f i : ℕ) (hf : can_remove L (Some f) f ≡ true)
       let a = b.lone (starts_alone L i (prev_of (at L i)) (next_of (at L i)) s m h e b.here) in
       ne (cc)
 
-  pub f_free : at (after_remove L f) f ≡ Free
+  pub f_free : at (after_remove L f) f ≡ None
   f_free = remove_free L (Some f) f hf
 
   pub f_there : f < length (after_remove L f)
@@ -95,7 +93,7 @@ module _ (L : List Position) (f i : ℕ) (hf : can_remove L (Some f) f ≡ true)
       subst (λ z. Holds (after_replace (after_remove L f) i f) z (replaced i f m)) (moved_other s i (Some f) (after_some s m h))
       (replaced_list (after_remove L f) (next_of (at L f)) i f still_there f_free f_there s m (front_other L f hf s m h o))
 
-  pub swap_free : at (after_replace (after_remove L f) i f) i ≡ Free
+  pub swap_free : at (after_replace (after_remove L f) i f) i ≡ None
   swap_free = replace_free (after_remove L f) (next_of (at L f)) i f still_there
 
   pub swap_in : (j : ℕ) → j ≢ i → is_in (at (after_replace (after_remove L f) i f) j) ≡ is_in (at L j)
@@ -110,7 +108,7 @@ pub record Swapped (L : List Position) (start : Option ℕ) (i : ℕ) (M : List 
   pub listed : Becomes (swap_removed i) L start M begin
   pub elsewhere : (f : ℕ) → start ≡ Some f → OthersBecome (replaced i f) L start M
   pub others : OthersStayIfListed i L start M
-  pub freed : at M i ≡ Free
+  pub freed : at M i ≡ None
   pub status : StatusStays i L M
   pub size : length M ≡ length L
 
@@ -121,14 +119,14 @@ swaps_first L M begin f i h q e d =
       listed = λ l k. subst (Holds M begin) (sym (gone l k)) (rw (e, d) (front_list L f h l k));
       elsewhere = λ g w s m k o. subst (Holds M s) (sym (spliced_none i (g ∷ []) m (subst (λ z. has m z ≡ false) q (not_shared L f (next_of (at L f)) s m (front_alone L f h) k (λ u. o f u refl))))) (rw e (front_other L f h s m k o));
       others = λ _ _ _ s m k o. rw e (front_other L f h s m k o);
-      freed = subst (λ z. at M z ≡ Free) q (rw e (remove_free L (Some f) f h));
+      freed = subst (λ z. at M z ≡ None) q (rw e (remove_free L (Some f) f h));
       status = λ j n. rw e (remove_in L f j (λ u. n (u ∙ q)));
       size = rw e (remove_length L f);
     }
   where
     gone : (l : List ℕ) → Holds L (Some f) l → swap_removed i l ≡ rest l
     gone [] k = refl
-    gone (x ∷ l) k = let a = k.starts in let xi : x ≡ i = cc in cond-true (eqb x i) l (replaced i x l) (eq-eqb x i xi)
+    gone (x ∷ l) k = let xi : x ≡ i = cc in cond-true (eqb x i) l (replaced i x l) (eq-eqb x i xi)
 
 swaps_later : (L M : List Position) (begin : Option ℕ) (f i : ℕ) → can_remove L (Some f) f ≡ true → can_remove L (Some f) i ≡ true → f ≢ i → M ≡ after_replace (after_remove L f) i f → begin ≡ moved (next_of (at L f)) i (Some f) → Swapped L (Some f) i M begin
 swaps_later L M begin f i h hi ne e d =
@@ -144,12 +142,11 @@ swaps_later L M begin f i h hi ne e d =
     put : (l : List ℕ) → Holds L (Some f) l → swap_removed i l ≡ replaced i f (rest l)
     put [] k = refl
     put (x ∷ l) k =
-        let a = k.starts in
         let xf : x ≡ f = cc in
         cond-false (eqb x i) l (replaced i x l) (ne_eqb x i (λ u. ne (sym xf ∙ u))) ∙ ap (λ z. replaced i z l) xf
 
 pub swaps : (L M : List Position) (start begin : Option ℕ) (i : ℕ) → can_swap L start i ≡ true → M ≡ after_swap L start i → begin ≡ start_after_swap L start i → Swapped L start i M begin
-swaps L M None begin i h e d = absurd (false≢true h)
+swaps L M None begin i h e d = cc
 swaps L M (Some f) begin i h e d =
     let p = and_parts (can_remove L (Some f) f) (can_remove L (Some f) i) h in
     ⊎_elim
@@ -163,7 +160,7 @@ swaps L M (Some f) begin i h e d =
 
 -- an entry of the list can be swapped out
 pub listed_can_swap : (L : List Position) (s : Option ℕ) (l : List ℕ) (i : ℕ) → Holds L s l → has l i ≡ true → can_swap L s i ≡ true
-listed_can_swap L s [] i h e = absurd (false≢true e)
+listed_can_swap L s [] i h e = cc
 listed_can_swap L s (x ∷ l) i h e =
     let k : Holds L (Some x) (x ∷ l) = record { starts = refl; linked = h.linked } in
     ap (λ z. can_swap L z i) h.starts

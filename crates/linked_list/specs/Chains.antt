@@ -1,8 +1,7 @@
 -- Lists of indices: what a start and the positions stand for, and what the calls do.
 use Rattle.std.specs.Prelude.{◌≡◌, ℕ, zero, suc, Bool, true, false, cond, not, ◌&&◌, ◌||◌, List, [], ◌∷◌, ◌++◌, length, Some, None, Option, ◌==◌, ◌≢◌, nat_lt, slice_set}
-use Rattle.linked_list.specs.declared.position.Position.{Position}
-use Rattle.linked_list.specs.declared.position.Position.TheVariants.{Free, In}
-use Rattle.linked_list.specs.Places.{is_in, prev_of, next_of, names, is_none, at, prev_set, next_set}
+use Rattle.std.specs.Option.{is_none}
+use Rattle.linked_list.specs.Places.{Position, enlisted, is_in, prev_of, next_of, names, at, prev_set, next_set}
 
 -- ---- lists of indices
 -- whether i is in l
@@ -47,7 +46,7 @@ swap_removed i (f ∷ l) = cond (f == i) l (replaced i f l)
 -- the entries of l, which differ, are linked in this order, after p
 abbrev pub Chain : List Position → Option ℕ → List ℕ → Type 0
 Chain L p [] = Unit {0}
-Chain L p (i ∷ l) = (at L i ≡ In p (first l)) × (has l i ≡ false) × Chain L (Some i) l
+Chain L p (i ∷ l) = (at L i ≡ enlisted p (first l)) × (has l i ≡ false) × Chain L (Some i) l
 
 -- start and L stand for the list l
 pub record Holds (L : List Position) (start : Option ℕ) (l : List ℕ) : Type 0 where
@@ -92,7 +91,7 @@ abbrev pub can_push : List Position → Option ℕ → ℕ → Bool
 can_push L start i = nat_lt i (length L) && (not (is_in (at L i)) && is_front L start)
 
 abbrev pub after_push : List Position → Option ℕ → ℕ → List Position
-after_push L start i = slice_set (prev_set L start (Some i)) i (In None start)
+after_push L start i = slice_set (prev_set L start (Some i)) i (enlisted None start)
 
 -- the entries that stood around p have x after them and y before them
 abbrev pub relinked : List Position → Position → Option ℕ → Option ℕ → List Position
@@ -100,11 +99,11 @@ relinked L p x y = prev_set (next_set L (prev_of p) x) (next_of p) y
 
 -- the neighbours of i become each other's
 abbrev pub after_remove : List Position → ℕ → List Position
-after_remove L i = slice_set (relinked L (at L i) (next_of (at L i)) (prev_of (at L i))) i Free
+after_remove L i = slice_set (relinked L (at L i) (next_of (at L i)) (prev_of (at L i))) i None
 
 -- j stands where i stood
 abbrev pub after_replace : List Position → ℕ → ℕ → List Position
-after_replace L i j = slice_set (slice_set (relinked L (at L i) (Some j) (Some j)) j (at L i)) i Free
+after_replace L i j = slice_set (slice_set (relinked L (at L i) (Some j) (Some j)) j (at L i)) i None
 
 -- the start, once x stands where i stood
 abbrev pub moved : Option ℕ → ℕ → Option ℕ → Option ℕ

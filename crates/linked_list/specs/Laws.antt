@@ -1,7 +1,6 @@
 -- What a call does to the lists of a container: L the positions before it and M after it.
 use Rattle.std.specs.Prelude.{◌≡◌, ℕ, ◌<◌, ◌≤◌, true, false, List, length, Option, ◌≢◌}
-use Rattle.linked_list.specs.declared.position.Position.{Position}
-use Rattle.linked_list.specs.Places.{is_in, at}
+use Rattle.linked_list.specs.Places.{Position, is_in, at}
 use Rattle.linked_list.specs.Chains.{has, Holds, Other, entries_of}
 
 -- the list at start, whatever it is, becomes f of it, at begin

@@ -1,12 +1,11 @@
 ghost use Rattle.std.specs.Prelude.{◌≡◌, List, length, nat_lt, slice_set};
-ghost use Rattle.linked_list.specs.declared.position.Position.{Position};
-ghost use Rattle.linked_list.specs.Places.{at};
+ghost use Rattle.linked_list.specs.Places.{Position, at};
 
-use crate::position::Position;
+use crate::position::LinkedListPosition;
 
 // What keeps a position for each index below some bound.
 pub trait Container {
-    // the position at each index
+    // the position at each index; none of what is in no list
     ghost positions: { Self → List Position };
 
     // what is kept besides the positions
@@ -18,10 +17,10 @@ pub trait Container {
     fn holds(&self, i: u32) -> bool
         ensures { result ≡ nat_lt i (length (positions self.now)) };
 
-    fn position(&self, i: u32) -> Position
+    fn position(&self, i: u32) -> Option<LinkedListPosition>
         ensures { result ≡ at (positions self.now) i };
 
-    fn set_position(&mut self, i: u32, position: Position)
+    fn set_position(&mut self, i: u32, position: Option<LinkedListPosition>)
         ensures placed { positions self.new ≡ slice_set (positions self.old) i position }
         ensures kept { stripped self.new ≡ stripped self.old };
 }

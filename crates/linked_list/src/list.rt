@@ -1,12 +1,13 @@
 ghost use Rattle.std.specs.Prelude.{◌≡◌, ℕ, true, false, not, ◌&&◌, List, [], ◌∷◌, length, if◌then◌else◌, Some, None, Option, ◌≢◌, nat_lt};
-ghost use Rattle.linked_list.specs.declared.position.Position.{Position};
-ghost use Rattle.linked_list.specs.declared.position.Position.TheVariants.{Free};
-ghost use Rattle.linked_list.specs.Places.{is_in, names, at, prev_set, next_set};
+ghost use Rattle.std.specs.Fn.{FnOnceReturnsAtMut};
+ghost use Rattle.linked_list.specs.declared.position.LinkedListPosition.{LinkedListPosition};
+ghost use Rattle.linked_list.specs.Places.{Position, is_in, at, Computes, changed};
 ghost use Rattle.linked_list.specs.Chains.{Holds, Other, has, first, rest, without, replaced, swap_removed, leads_to, points_back, can_remove, start_after_remove, after_remove, after_replace, moved, is_front, can_push, after_push, can_pop, after_pop, start_after_pop, can_swap, after_swap, start_after_swap};
 ghost use Rattle.linked_list.specs.Laws.{Becomes, OthersStay, OthersBecome, OthersStayIfListed, StatusStays};
 
 use crate::container::Container;
-use crate::position::Position;
+use crate::position::LinkedListPosition;
+use crate::walk;
 
 // A list of indices: the entries from `start` on.
 #[derive(Clone, Copy)]
@@ -14,52 +15,40 @@ pub struct LinkedList {
     pub start: Option<u32>,
 }
 
-// Whether it is `i` that is named.
-fn names_index(named: Option<u32>, i: u32) -> bool
-    ensures { result ≡ names named i }
-{
-    match named {
-        None => false,
-        Some(j) => j == i,
-    }
-}
-
 // Where a list starts once `new` stands where `i` stood.
 fn moved_start(start: Option<u32>, i: u32, new: Option<u32>) -> Option<u32>
     ensures { result ≡ moved start i new }
 {
-    if names_index(start, i) { new } else { start }
+    if start == Some(i) { new } else { start }
 }
 
-// Gives the entry that is named, if any, another `prev`.
-fn set_prev<C: Container>(entries: &mut C, named: Option<u32>, prev: Option<u32>)
-    ensures placed { C.positions entries.new ≡ prev_set (C.positions entries.old) named prev }
+// Changes where the entry that is named stands; one in no list stays so.
+fn update<C: Container, F: FnOnce(&mut LinkedListPosition)>(
+    entries: &mut C,
+    named: Option<u32>,
+    change: F,
+)
+    requires { F.IsAlwaysCallable change }
+    ensures placed { (f : LinkedListPosition → LinkedListPosition) → Computes (λ p q. FnOnceReturnsAtMut F.FnOnce change p tt q) f → C.positions entries.new ≡ changed f (C.positions entries.old) named }
     ensures kept { C.stripped entries.new ≡ C.stripped entries.old }
 {
     if let Some(i) = named {
-        let position = entries.position(i);
-        entries.set_position(i, position.with_prev(prev));
+        let mut position = entries.position(i);
+        if let Some(position) = &mut position {
+            change(position);
+        }
+        entries.set_position(i, position);
     }
 }
 
-// Gives the entry that is named, if any, another `next`.
-fn set_next<C: Container>(entries: &mut C, named: Option<u32>, next: Option<u32>)
-    ensures placed { C.positions entries.new ≡ next_set (C.positions entries.old) named next }
-    ensures kept { C.stripped entries.new ≡ C.stripped entries.old }
-{
-    if let Some(i) = named {
-        let position = entries.position(i);
-        entries.set_position(i, position.with_next(next));
-    }
-}
-
+// Two cases with different tests, so a `match` says it as it is.
 // Whether what stands before `i` leads to it: the start, or the entry that `prev` names.
 fn leads_to<C: Container>(entries: &C, start: Option<u32>, prev: Option<u32>, i: u32) -> bool
     ensures { result ≡ leads_to (C.positions entries.now) start prev i }
 {
     match prev {
-        None => names_index(start, i),
-        Some(p) => !names_index(start, i) && names_index(entries.position(p).next(), i),
+        None => start == Some(i),
+        Some(p) => start != Some(i) && walk::next(entries, p) == Some(i),
     }
 }
 
@@ -67,23 +56,18 @@ fn leads_to<C: Container>(entries: &C, start: Option<u32>, prev: Option<u32>, i:
 fn has_before<C: Container>(entries: &C, named: Option<u32>, i: u32) -> bool
     ensures { result ≡ points_back (C.positions entries.now) named i }
 {
-    match named {
-        None => true,
-        Some(n) => names_index(entries.position(n).prev(), i),
-    }
+    named.is_none_or(|n| walk::prev(entries, n) == Some(i))
 }
 
 // Whether nothing stands before the entry that is named, if any.
 fn is_front_entry<C: Container>(entries: &C, named: Option<u32>) -> bool
     ensures { result ≡ is_front (C.positions entries.now) named }
 {
-    match named {
-        None => true,
-        Some(h) => {
-            let position = entries.position(h);
-            position.is_in_list() && position.prev().is_none()
-        }
-    }
+    named.is_none_or(|front| {
+        entries
+            .position(front)
+            .is_some_and(|position| position.prev.is_none())
+    })
 }
 
 impl LinkedList {
@@ -99,31 +83,45 @@ impl LinkedList {
     fn can_remove<C: Container>(&self, entries: &C, i: u32) -> bool
         ensures { result ≡ can_remove (C.positions entries.now) self.now.start i }
     {
-        let position = entries.position(i);
-        position.is_in_list()
-            && leads_to(entries, self.start, position.prev(), i)
-            && has_before(entries, position.next(), i)
+        entries.position(i).is_some_and(|position| {
+            leads_to(entries, self.start, position.prev, i) && has_before(entries, position.next, i)
+        })
     }
 
     // Whether `i` is there and in no list, and this is a list.
     fn can_push<C: Container>(&self, entries: &C, i: u32) -> bool
         ensures { result ≡ can_push (C.positions entries.now) self.now.start i }
     {
-        entries.holds(i) && !entries.position(i).is_in_list() && is_front_entry(entries, self.start)
+        entries.holds(i) && entries.position(i).is_none() && is_front_entry(entries, self.start)
     }
 
+    // Puts `i` before the first entry.
+    fn put_front<C: Container>(&mut self, entries: &mut C, i: u32)
+        ensures placed { C.positions entries.new ≡ after_push (C.positions entries.old) self.old.start i }
+        ensures started { self.new.start ≡ Some i }
+        ensures kept { C.stripped entries.new ≡ C.stripped entries.old }
+    {
+        update(entries, self.start, |position| position.prev = Some(i));
+        let position = LinkedListPosition {
+            prev: None,
+            next: self.start,
+        };
+        entries.set_position(i, Some(position));
+        self.start = Some(i);
+    }
+
+    // Not one function with `put_for`: that links other neighbours and writes another place.
     // Takes `i` out: its neighbours become each other's.
     fn take_out<C: Container>(&mut self, entries: &mut C, i: u32)
         ensures placed { C.positions entries.new ≡ after_remove (C.positions entries.old) i }
         ensures started { self.new.start ≡ start_after_remove (C.positions entries.old) self.old.start i }
         ensures kept { C.stripped entries.new ≡ C.stripped entries.old }
     {
-        let position = entries.position(i);
-        let prev = position.prev();
-        let next = position.next();
-        set_next(entries, prev, next);
-        set_prev(entries, next, prev);
-        entries.set_position(i, Position::Free);
+        let prev = walk::prev(entries, i);
+        let next = walk::next(entries, i);
+        update(entries, prev, |position| position.next = next);
+        update(entries, next, |position| position.prev = prev);
+        entries.set_position(i, None);
         self.start = moved_start(self.start, i, next);
     }
 
@@ -134,12 +132,12 @@ impl LinkedList {
         ensures kept { C.stripped entries.new ≡ C.stripped entries.old }
     {
         let position = entries.position(i);
-        let prev = position.prev();
-        let next = position.next();
-        set_next(entries, prev, Some(j));
-        set_prev(entries, next, Some(j));
+        let prev = walk::prev(entries, i);
+        let next = walk::next(entries, i);
+        update(entries, prev, |position| position.next = Some(j));
+        update(entries, next, |position| position.prev = Some(j));
         entries.set_position(j, position);
-        entries.set_position(i, Position::Free);
+        entries.set_position(i, None);
         self.start = moved_start(self.start, i, Some(j));
     }
 
@@ -147,10 +145,9 @@ impl LinkedList {
     fn can_swap<C: Container>(&self, entries: &C, i: u32) -> bool
         ensures { result ≡ can_swap (C.positions entries.now) self.now.start i }
     {
-        match self.start {
-            None => false,
-            Some(front) => self.can_remove(entries, front) && self.can_remove(entries, i),
-        }
+        self.start.is_some_and(|front| {
+            self.can_remove(entries, front) && self.can_remove(entries, i)
+        })
     }
 
     // Takes the first entry out, and puts it where `i` stands unless it is `i`.
@@ -184,15 +181,7 @@ impl LinkedList {
         if !self.can_push(entries, i) {
             return false;
         }
-        set_prev(entries, self.start, Some(i));
-        entries.set_position(
-            i,
-            Position::In {
-                prev: None,
-                next: self.start,
-            },
-        );
-        self.start = Some(i);
+        self.put_front(entries, i);
         true
     }
 
@@ -209,7 +198,7 @@ impl LinkedList {
         ensures listed { Becomes (without i) (C.positions entries.old) self.old.start (C.positions entries.new) self.new.start }
         ensures others { OthersStayIfListed i (C.positions entries.old) self.old.start (C.positions entries.new) }
         ensures elsewhere { result ≡ true → OthersBecome (without i) (C.positions entries.old) self.old.start (C.positions entries.new) }
-        ensures freed { result ≡ true → at (C.positions entries.new) i ≡ Free }
+        ensures freed { result ≡ true → at (C.positions entries.new) i ≡ None }
         ensures status { StatusStays i (C.positions entries.old) (C.positions entries.new) }
         ensures size { length (C.positions entries.new) ≡ length (C.positions entries.old) }
     {
@@ -229,16 +218,12 @@ impl LinkedList {
         ensures granted { (l : List ℕ) → Holds (C.positions entries.old) self.old.start l → result ≡ first l }
         ensures listed { Becomes rest (C.positions entries.old) self.old.start (C.positions entries.new) self.new.start }
         ensures others { OthersStay (C.positions entries.old) self.old.start (C.positions entries.new) }
-        ensures freed { (i : ℕ) → result ≡ Some i → at (C.positions entries.new) i ≡ Free }
+        ensures freed { (i : ℕ) → result ≡ Some i → at (C.positions entries.new) i ≡ None }
         ensures status { (j : ℕ) → (result ≢ Some j) → is_in (at (C.positions entries.new) j) ≡ is_in (at (C.positions entries.old) j) }
         ensures size { length (C.positions entries.new) ≡ length (C.positions entries.old) }
     {
         let popped = self.start?;
-        if self.remove(entries, popped) {
-            Some(popped)
-        } else {
-            None
-        }
+        self.remove(entries, popped).then_some(popped)
     }
 
     /// Takes `i`, an entry of this list, out of it, and puts the first entry in its place.
@@ -253,7 +238,7 @@ impl LinkedList {
         ensures listed { result ≡ true → Becomes (swap_removed i) (C.positions entries.old) self.old.start (C.positions entries.new) self.new.start }
         ensures others { OthersStayIfListed i (C.positions entries.old) self.old.start (C.positions entries.new) }
         ensures elsewhere { (f : ℕ) → result ≡ true → self.old.start ≡ Some f → OthersBecome (replaced i f) (C.positions entries.old) self.old.start (C.positions entries.new) }
-        ensures freed { result ≡ true → at (C.positions entries.new) i ≡ Free }
+        ensures freed { result ≡ true → at (C.positions entries.new) i ≡ None }
         ensures status { StatusStays i (C.positions entries.old) (C.positions entries.new) }
         ensures size { length (C.positions entries.new) ≡ length (C.positions entries.old) }
     {

@@ -1,10 +1,8 @@
-ghost use Rattle.std.specs.Prelude.{◌≡◌, List, map, slice_set};
-ghost use Rattle.linked_list.specs.Places.{at};
-ghost use Rattle.linked_list.specs.declared.position.Position.{Position};
-ghost use Rattle.linked_list.specs.declared.position.Position.TheVariants.{Free};
+ghost use Rattle.std.specs.Prelude.{◌≡◌, List, map, None, slice_set};
+ghost use Rattle.linked_list.specs.Places.{Position, at};
 
 use crate::container::Container;
-use crate::position::Position;
+use crate::position::LinkedListPosition;
 
 // An entry that carries its own position.
 pub trait Linked: Copy {
@@ -14,10 +12,10 @@ pub trait Linked: Copy {
     // the entry but for its position
     ghost blank: { Self → Self };
 
-    fn position(&self) -> Position
+    fn position(&self) -> Option<LinkedListPosition>
         ensures { result ≡ place self.now };
 
-    fn set_position(&mut self, position: Position)
+    fn set_position(&mut self, position: Option<LinkedListPosition>)
         ensures placed { place self.new ≡ position }
         ensures kept { blank self.new ≡ blank self.old };
 }
@@ -25,19 +23,19 @@ pub trait Linked: Copy {
 // An entry that is its position and no more.
 #[derive(Clone, Copy)]
 pub struct Link {
-    pub position: Position,
+    pub position: Option<LinkedListPosition>,
 }
 
 impl Linked for Link {
     ghost place = { λ x. x.position };
 
-    ghost blank = { λ x. record { position = Free } };
+    ghost blank = { λ x. record { position = None } };
 
-    fn position(&self) -> Position {
+    fn position(&self) -> Option<LinkedListPosition> {
         self.position
     }
 
-    fn set_position(&mut self, position: Position) {
+    fn set_position(&mut self, position: Option<LinkedListPosition>) {
         *self = Link { position };
     }
 }
@@ -59,30 +57,14 @@ impl<'a, T: Linked> Container for Slots<'a, T> {
         (i as usize) < self.slots.len()
     }
 
-    fn position(&self, i: u32) -> Position {
-        position_at(self.slots, i)
+    fn position(&self, i: u32) -> Option<LinkedListPosition> {
+        self.slots.get(i as usize)?.position()
     }
 
-    fn set_position(&mut self, i: u32, position: Position) {
-        set_position_at(self.slots, i, position)
-    }
-}
-
-fn position_at<T: Linked>(slots: &[T], i: u32) -> Position
-    ensures { result ≡ at (map T.place slots.now) i }
-{
-    if (i as usize) < slots.len() {
-        slots[i as usize].position()
-    } else {
-        Position::Free
-    }
-}
-
-fn set_position_at<T: Linked>(slots: &mut [T], i: u32, position: Position)
-    ensures placed { map T.place slots.new ≡ slice_set (map T.place slots.old) i position }
-    ensures kept { map T.blank slots.new ≡ map T.blank slots.old }
-{
-    if (i as usize) < slots.len() {
-        slots[i as usize].set_position(position);
+    fn set_position(&mut self, i: u32, position: Option<LinkedListPosition>) {
+        // by index: after a slice's `get_mut` a proof knows only the length
+        if self.holds(i) {
+            self.slots[i as usize].set_position(position);
+        }
     }
 }

@@ -3,12 +3,19 @@
 #![tactic(auto)]
 
 use linked_list::list::LinkedList;
-use linked_list::position::Position;
 use linked_list::slots::{Link, Slots};
 use linked_list::walk;
 use std::io;
+use std::iter::successors;
 
-const ENTRIES: u32 = 8;
+const ENTRIES: usize = 8;
+
+// Which of the two lists.
+#[derive(Clone, Copy)]
+enum List {
+    A,
+    B,
+}
 
 #[derive(Clone, Copy)]
 enum Action {
@@ -18,59 +25,29 @@ enum Action {
     SwapRemove(u32),
 }
 
-#[derive(Clone, Copy)]
-struct Step {
-    on_b: bool,
-    action: Action,
-}
-
-fn on_a(action: Action) -> Step {
-    Step {
-        on_b: false,
-        action,
-    }
-}
-
-fn on_b(action: Action) -> Step {
-    Step { on_b: true, action }
-}
-
-// Prints the entries from `start` to the last, and answers the last.
-fn print_forth(
+// Prints the entries from `first` on, each of which `step` answers for the one before it.
+fn print_entries<F: Fn(u32) -> Option<u32>>(
     rt: &HostRuntime,
-    start: Option<u32>,
-    entries: &Slots<Link>,
-) -> io::Result<Option<u32>> {
-    let mut at = start;
-    let mut last = None;
-    for _ in 0..ENTRIES {
-        if let Some(i) = at {
-            print!(rt; " {i}")?;
-            last = at;
-            at = walk::next(entries, i);
-        }
-    }
-    Ok(last)
-}
-
-// Prints the entries from `last` back to the first.
-fn print_back(rt: &HostRuntime, last: Option<u32>, entries: &Slots<Link>) -> io::Result<()> {
-    let mut at = last;
-    for _ in 0..ENTRIES {
-        if let Some(i) = at {
-            print!(rt; " {i}")?;
-            at = walk::prev(entries, i);
-        }
+    first: Option<u32>,
+    step: F,
+) -> io::Result<()>
+    requires { (f : F) (i : _) → F.pre f i }
+{
+    for i in successors(first, |i| step(*i)).take(ENTRIES) {
+        print!(rt; " {i}")?;
     }
     Ok(())
 }
 
 // A list on one line, from first to last and back.
 fn show(rt: &HostRuntime, name: &str, list: LinkedList, entries: &Slots<Link>) -> io::Result<()> {
+    let last = successors(list.start, |i| walk::next(entries, *i))
+        .take(ENTRIES)
+        .last();
     print!(rt; "  {name}:")?;
-    let last = print_forth(rt, list.start, entries)?;
+    print_entries(rt, list.start, |i| walk::next(entries, i))?;
     print!(rt; " |")?;
-    print_back(rt, last, entries)?;
+    print_entries(rt, last, |i| walk::prev(entries, i))?;
     println!(rt; "")
 }
 
@@ -102,37 +79,34 @@ fn act(
 }
 
 fn main(rt: HostRuntime) -> io::Result<()> {
-    let mut links = [Link {
-        position: Position::Free,
-    }; 8];
+    let mut links = [Link { position: None }; ENTRIES];
     let mut entries = Slots { slots: &mut links };
     let mut a = LinkedList::new();
     let mut b = LinkedList::new();
     let steps = [
-        on_a(Action::PushFront(0)),
-        on_a(Action::PushFront(1)),
-        on_a(Action::PushFront(2)),
-        on_a(Action::PushFront(3)),
-        on_b(Action::PushFront(6)),
-        on_b(Action::PushFront(3)),
-        on_b(Action::PushFront(8)),
-        on_a(Action::Remove(2)),
-        on_a(Action::Remove(6)),
-        on_a(Action::PushFront(4)),
-        on_a(Action::SwapRemove(1)),
-        on_a(Action::SwapRemove(3)),
-        on_a(Action::Pop),
-        on_b(Action::Pop),
-        on_b(Action::Pop),
+        (List::A, Action::PushFront(0)),
+        (List::A, Action::PushFront(1)),
+        (List::A, Action::PushFront(2)),
+        (List::A, Action::PushFront(3)),
+        (List::B, Action::PushFront(6)),
+        (List::B, Action::PushFront(3)),
+        (List::B, Action::PushFront(8)),
+        (List::A, Action::Remove(2)),
+        (List::A, Action::Remove(6)),
+        (List::A, Action::PushFront(4)),
+        (List::A, Action::SwapRemove(1)),
+        (List::A, Action::SwapRemove(3)),
+        (List::A, Action::Pop),
+        (List::B, Action::Pop),
+        (List::B, Action::Pop),
     ];
-    for step in steps {
-        if step.on_b {
-            print!(rt; "b.")?;
-            act(&rt, &mut b, &mut entries, step.action)?;
-        } else {
-            print!(rt; "a.")?;
-            act(&rt, &mut a, &mut entries, step.action)?;
-        }
+    for (list, action) in steps {
+        let (name, list) = match list {
+            List::A => ("a", &mut a),
+            List::B => ("b", &mut b),
+        };
+        print!(rt; "{name}.")?;
+        act(&rt, list, &mut entries, action)?;
         show(&rt, "a", a, &entries)?;
         show(&rt, "b", b, &entries)?;
     }

@@ -1,8 +1,9 @@
 -- One more link at a node.
+use Rattle.std.specs.Option.{option_or}
 use Rattle.std.proofs.Common.{◌≡◌, ℕ, suc, ◌<◌, true, false, cond, not, ltb, ◌≢◌, ◌⊎◌, List, [], ◌∷◌, ◌++◌, length, set, Some, None, sym, refl, ap, ◌∙◌, subst, inl, inr, ⊎_elim, arith}
 use Rattle.std.proofs.lemmas.List.{length-set, get_or-set_other}
 use Rattle.std.proofs.lemmas.Bool.{cases_eq, lt-ltb, and_from, not_from_false}
-use Rattle.linked_list.specs.declared.position.Position.{Position}
+use Rattle.linked_list.specs.Places.{Position}
 use Rattle.linked_list.specs.Places.{is_in, at}
 use Rattle.linked_list.specs.Chains.{has, last, Holds, entries_of, can_push, after_push}
 use Rattle.linked_list.proofs.Members.{has_head, has_tail}
@@ -12,9 +13,9 @@ use Rattle.keys.specs.declared.node_index.NodeIndex.{NodeIndex}
 use Rattle.map_model.specs.Lists.{found, changed}
 use Rattle.map_model.specs.Model.{named, relinked}
 use Rattle.map_layout.specs.declared.records.NodeRecord.{NodeRecord}
-use Rattle.map_layout.specs.declared.records.Neighbor.{Neighbor}
+use Rattle.map_layout.specs.declared.records.IndexedKey.{IndexedKey}
 use Rattle.map_layout.specs.Layout.{State, NodeItem, numbered, Idle, Lists, Linked, places_of, link_to, model}
-use Rattle.map_layout.specs.Steps.{with_links, node_put, linked_to, else_some}
+use Rattle.map_layout.specs.Steps.{with_links, node_put, linked_to}
 use Rattle.map_layout.proofs.Items.{put_old}
 use Rattle.map_layout.proofs.Links.{links_push}
 use Rattle.map_layout.proofs.Places.{has_cons, last_cons}
@@ -31,7 +32,7 @@ pub record Same {N E : Type 0} (st st' : State N E) : Type 0 where
   pub arc_places : st'.arc_places ≡ st.arc_places
   pub size : length st'.positions ≡ length st.positions
 
-pub record Attached {N E : Type 0} (st : State N E) (i p : ℕ) (o : Neighbor N) (st' : State N E) : Type 0 where
+pub record Attached {N E : Type 0} (st : State N E) (i p : ℕ) (o : IndexedKey N) (st' : State N E) : Type 0 where
   pub same : Same st st'
   pub neighbors : st'.neighbors ≡ set st.neighbors p (Some o)
   pub shown : (model st').nodes ≡ changed (named i) (relinked (λ l. l ++ link_to p o ∷ [])) (model st).nodes
@@ -44,7 +45,7 @@ pub record Attached {N E : Type 0} (st : State N E) (i p : ℕ) (o : Neighbor N)
 pub idle_stays : (L M : List Position) (p : ℕ) → ((j : ℕ) → (j ≡ p → ⊥) → is_in (at M j) ≡ is_in (at L j)) → (q : ℕ) → q ≢ p → Idle L q → Idle M q
 idle_stays L M p h q n e = free_is (at M q) (h q n ∙ ap is_in e)
 
-module _ {N E : Type 0} (st : State N E) (i : NodeIndex) (p : ℕ) (o : Neighbor N) (x : NodeItem N)
+module _ {N E : Type 0} (st : State N E) (i : NodeIndex) (p : ℕ) (o : IndexedKey N) (x : NodeItem N)
     (base : Base st) (there : found (numbered i.value) st.nodes ≡ Some x) (free : Idle st.positions p) (fits : p < length st.positions) where
   held_here : Holds st.positions x.value.newest (places_of st.positions x)
   held_here = base.held.each (suc i.value) x.value.newest (begun st i.value x base there)
@@ -61,14 +62,14 @@ module _ {N E : Type 0} (st : State N E) (i : NodeIndex) (p : ℕ) (o : Neighbor
   not_there = free_not_in st.positions None (places_of st.positions x) p held_here.linked free
 
   abbrev grown : NodeRecord N
-  grown = record { key = x.value.key; newest = Some p; oldest = else_some x.value.oldest p }
+  grown = record { key = x.value.key; newest = Some p; oldest = option_or x.value.oldest (Some p) }
 
   abbrev result : State N E
   result = restated st i.value grown (set st.neighbors p (Some o)) (after_push st.positions x.value.newest p)
 
   is_result : linked_to x.value i p o st ≡ result
   is_result =
-      ap (λ g. with_links st (node_put i (record { key = x.value.key; newest = cond g (Some p) x.value.newest; oldest = else_some x.value.oldest p }) st) (set st.neighbors p (Some o)) (cond g (after_push st.positions x.value.newest p) st.positions)) granted
+      ap (λ g. with_links st (node_put i (record { key = x.value.key; newest = cond g (Some p) x.value.newest; oldest = option_or x.value.oldest (Some p) }) st) (set st.neighbors p (Some o)) (cond g (after_push st.positions x.value.newest p) st.positions)) granted
       ∙ ap (λ ns. with_links st ns (set st.neighbors p (Some o)) (after_push st.positions x.value.newest p)) (put_old st.node_places i.value i grown st.nodes x there)
 
   now_holds : Holds (after_push st.positions x.value.newest p) (Some p) (p ∷ places_of st.positions x)
@@ -77,8 +78,8 @@ module _ {N E : Type 0} (st : State N E) (i : NodeIndex) (p : ℕ) (o : Neighbor
   begins_at : (y : ℕ) → Some p ≡ Some y → Idle st.positions y ⊎ (has (places_of st.positions x) y ≡ true)
   begins_at y e = let q : p ≡ y = cc in inl (subst (Idle st.positions) q free)
 
-  ends_at : else_some x.value.oldest p ≡ last (p ∷ places_of st.positions x)
-  ends_at = ap (λ z. else_some z p) (base.oldest x (x_among st i.value x base there)) ∙ sym (last_cons p (places_of st.positions x))
+  ends_at : option_or x.value.oldest (Some p) ≡ last (p ∷ places_of st.positions x)
+  ends_at = ap (λ z. option_or z (Some p)) (base.oldest x (x_among st i.value x base there)) ∙ sym (last_cons p (places_of st.positions x))
 
   level_after : length (set st.neighbors p (Some o)) ≡ length (after_push st.positions x.value.newest p)
   level_after = length-set st.neighbors p (Some o) ∙ base.level ∙ sym put.size

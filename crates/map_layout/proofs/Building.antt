@@ -1,15 +1,15 @@
 -- A map just built.
 use Rattle.std.proofs.Common.{◌≡◌, ℕ, suc, ◌*◌, ◌≤◌, List, [], length, None, Option, sym, ap, ◌∙◌, subst, arith}
 use Rattle.std.proofs.lemmas.Bool.{false≢true}
-use Rattle.linked_list.specs.declared.position.Position.{Position}
+use Rattle.linked_list.specs.Places.{Position}
 use Rattle.linked_list.specs.Chains.{has, Holds, entries_of}
 use Rattle.linked_list.proofs.Linking.{holds_read, holds_none}
 use Rattle.map_model.proofs.Running.{sound_built}
-use Rattle.map_layout.specs.declared.records.Neighbor.{Neighbor}
+use Rattle.map_layout.specs.declared.records.IndexedKey.{IndexedKey}
 use Rattle.map_layout.specs.Layout.{of_unused, of_node, Owns, Idle, Lists, Rep}
 use Rattle.map_layout.specs.Edits.{Good, empty}
 
-module _ (N E : Type 0) (cs : List (Option (Neighbor N))) (L : List Position) (n m : ℕ) where
+module _ (N E : Type 0) (cs : List (Option (IndexedKey N))) (L : List Position) (n m : ℕ) where
   start_none : (k : ℕ) (s : Option ℕ) → Lists (empty {N = N} {E = E} cs L n m) k s → s ≡ None
   start_none k s (of_unused e f) = f
   start_none k s (of_node x a e f) = absurd a

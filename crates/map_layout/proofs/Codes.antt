@@ -1,8 +1,8 @@
 -- Maps are a set, where keys and weights are.
 use Rattle.std.proofs.Common.{◌≡◌, ℕ, Bool, true, false, refl, arith}
 use base.Stored.{Coded, coded_ℕ, coded_bool, coded×, coded_list, coded_via}
-use Rattle.map_model.specs.declared.CompactDirection.{CompactDirection}
-use Rattle.map_model.specs.declared.CompactDirection.TheVariants.{Outgoing, Incoming}
+use Rattle.network.specs.declared.direction.CompactDirection.{CompactDirection}
+use Rattle.network.specs.declared.direction.CompactDirection.TheVariants.{Outgoing, Incoming}
 use Rattle.map_model.specs.Model.{Link, Node, Arc, Model}
 
 abbrev bit : CompactDirection → Bool

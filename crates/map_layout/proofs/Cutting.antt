@@ -4,11 +4,11 @@ use Rattle.std.specs.Option.{option_map}
 use Rattle.std.proofs.lemmas.Bool.{eq-eqb, and_from}
 use Rattle.linked_list.specs.Chains.{has, entries_of}
 use Rattle.keys.specs.declared.node_index.NodeIndex.{NodeIndex}
-use Rattle.map_model.specs.declared.CompactDirection.{CompactDirection}
-use Rattle.map_model.specs.declared.CompactDirection.TheVariants.{Outgoing, Incoming}
+use Rattle.network.specs.declared.direction.CompactDirection.{CompactDirection}
+use Rattle.network.specs.declared.direction.CompactDirection.TheVariants.{Outgoing, Incoming}
 use Rattle.map_model.specs.Lists.{count, found, changed}
 use Rattle.map_model.specs.Model.{same_direction, Link, named, links_to, links_at, relinked, unlinked}
-use Rattle.map_layout.specs.declared.records.Neighbor.{Neighbor}
+use Rattle.map_layout.specs.declared.records.IndexedKey.{IndexedKey}
 use Rattle.map_layout.specs.Layout.{State, NodeItem, numbered, of_unused, of_node, Names, Lists, Linked, Rep, direction_at, link_to, places_of, model}
 use Rattle.map_layout.specs.Steps.{node_at, swapped_from, swapped_out_of, dropped_from, dropped_out_of}
 use Rattle.map_layout.specs.Edits.{oldest_of, oldest_at}
@@ -25,7 +25,7 @@ pub record NodeWith {N E : Type 0} (st : State N E) (i p : ℕ) : Type 0 where
 
 -- every linked place names a neighbour
 abbrev pub Filled : {N E : Type 0} → State N E → Type 0
-Filled {N} st = (k q : ℕ) → Linked st k q → (g : Neighbor N) × (get_or st.neighbors q None ≡ Some g)
+Filled {N} st = (k q : ℕ) → Linked st k q → (g : IndexedKey N) × (get_or st.neighbors q None ≡ Some g)
 
 pub filled : {N E : Type 0} (st : State N E) → Rep st → Filled st
 filled st rep k q o = let n = (rep.paired k q o).names in (n.neighbor, n.there)
@@ -72,7 +72,7 @@ module _ {N E : Type 0} (st : State N E) (base : Base st) where
       let w = node_with i.value p o in
       subst (λ z. Lost st p (dropped_from z i p st)) (sym (record_at i.value p w)) (drops st i p w.item base w.there w.listed (final i.value p w e))
 
-  pub drop_step_shown : (i : NodeIndex) (p : ℕ) (o : Neighbor N) (g : List (Link N) → List (Link N)) → Linked st i.value p → oldest_at i.value st ≡ Some p
+  pub drop_step_shown : (i : NodeIndex) (p : ℕ) (o : IndexedKey N) (g : List (Link N) → List (Link N)) → Linked st i.value p → oldest_at i.value st ≡ Some p
       → get_or st.neighbors p None ≡ Some o → ((k : Link N) (ks : List (Link N)) → g (k ∷ ks) ≡ ks)
       → (model (dropped_out_of i p st)).nodes ≡ changed (named i.value) (relinked g) (model st).nodes
   drop_step_shown i p o g l e n tail =
@@ -80,7 +80,7 @@ module _ {N E : Type 0} (st : State N E) (base : Base st) where
       ap (λ z. (model (dropped_from z i p st)).nodes) (record_at i.value p w)
       ∙ drop_shown st i p w.item base w.there w.listed (final i.value p w e) o g n tail
 
-  pub oldest_link : (i : NodeIndex) (p : ℕ) (o : Neighbor N) → Linked st i.value p → oldest_at i.value st ≡ Some p → get_or st.neighbors p None ≡ Some o
+  pub oldest_link : (i : NodeIndex) (p : ℕ) (o : IndexedKey N) → Linked st i.value p → oldest_at i.value st ≡ Some p → get_or st.neighbors p None ≡ Some o
       → (ks : List (Link N)) × (links_at i.value (model st).nodes ≡ link_to p o ∷ ks)
   oldest_link i p o l e n =
       let w = node_with i.value p l in

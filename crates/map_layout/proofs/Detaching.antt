@@ -2,7 +2,7 @@
 use Rattle.std.proofs.Common.{◌≡◌, ℕ, suc, ◌≤◌, Bool, true, cond, ◌≢◌, ◌⊎◌, List, [], ◌∷◌, reverse, length, get_or, Some, None, Option, sym, refl, ap, ◌∙◌, subst, inr, ⊎_elim, arith}
 use Rattle.std.specs.Option.{option_map}
 use Rattle.std.proofs.lemmas.Bool.{cases_eq, both_ways}
-use Rattle.linked_list.specs.declared.position.Position.{Position}
+use Rattle.linked_list.specs.Places.{Position}
 use Rattle.linked_list.specs.Places.{prev_of, at}
 use Rattle.linked_list.specs.Chains.{has, last, swap_removed, without, Holds, entries_of, can_swap, after_swap, start_after_swap, can_remove, after_remove, start_after_remove}
 use Rattle.linked_list.specs.Laws.{StatusStays}
@@ -14,7 +14,7 @@ use Rattle.keys.specs.declared.node_index.NodeIndex.{NodeIndex}
 use Rattle.map_model.specs.Lists.{count, found, taken, changed}
 use Rattle.map_model.specs.Model.{Link, named, links_of, links_at, relinked}
 use Rattle.map_layout.specs.declared.records.NodeRecord.{NodeRecord}
-use Rattle.map_layout.specs.declared.records.Neighbor.{Neighbor}
+use Rattle.map_layout.specs.declared.records.IndexedKey.{IndexedKey}
 use Rattle.map_layout.specs.Layout.{State, NodeItem, numbered, Idle, Lists, Linked, places_of, link_to, links_in, node_of, model}
 use Rattle.map_layout.specs.Steps.{with_links, node_put, swapped_from, dropped_from, last_swapped}
 use Rattle.map_layout.proofs.Items.{put_old}
@@ -126,7 +126,7 @@ module _ {N E : Type 0} (st : State N E) (i : NodeIndex) (p : ℕ) (x : NodeItem
   pub swaps_out : Lost st p (swapped_from (Some x.value) i p st)
   swaps_out = subst (Lost st p) (sym is_swapped) (lost i.value p base there swap_change swap_gone listed swap.status swap.freed swap.size)
 
-  pub swap_shown : (o : Neighbor N) (q : Link N → Bool) → ((y : ℕ) → has (places_of st.positions x) y ≡ true → (g : Neighbor N) × (get_or st.neighbors y None ≡ Some g))
+  pub swap_shown : (o : IndexedKey N) (q : Link N → Bool) → ((y : ℕ) → has (places_of st.positions x) y ≡ true → (g : IndexedKey N) × (get_or st.neighbors y None ≡ Some g))
       → get_or st.neighbors p None ≡ Some o → q (link_to p o) ≡ true → count q (links_at i.value (model st).nodes) ≤ 1
       → (model (swapped_from (Some x.value) i p st)).nodes ≡ changed (named i.value) (relinked (taken q)) (model st).nodes
   swap_shown o q full e t c =
@@ -177,7 +177,7 @@ module _ {N E : Type 0} (st : State N E) (i : NodeIndex) (p : ℕ) (x : NodeItem
     drops = subst (Lost st p) (sym is_dropped) (lost i.value p base there drop_change drop_gone listed drop.status drop.freed drop.size)
 
     -- the first link goes, as g says
-    pub drop_shown : (o : Neighbor N) (g : List (Link N) → List (Link N)) → get_or st.neighbors p None ≡ Some o → ((k : Link N) (ks : List (Link N)) → g (k ∷ ks) ≡ ks)
+    pub drop_shown : (o : IndexedKey N) (g : List (Link N) → List (Link N)) → get_or st.neighbors p None ≡ Some o → ((k : Link N) (ks : List (Link N)) → g (k ∷ ks) ≡ ks)
         → (model (dropped_from (Some x.value) i p st)).nodes ≡ changed (named i.value) (relinked g) (model st).nodes
     drop_shown o g e tail =
         ap (λ z. (model z).nodes) is_dropped
@@ -186,7 +186,7 @@ module _ {N E : Type 0} (st : State N E) (i : NodeIndex) (p : ℕ) (x : NodeItem
         ∙ sym (tail (link_to p o) (reverse (links_in st.neighbors at_end.before)))
         ∙ ap g (sym (links_oldest st.neighbors p o at_end.before e) ∙ ap (λ z. reverse (links_in st.neighbors z)) (sym at_end.whole)))
 
-    pub first_link : (o : Neighbor N) → get_or st.neighbors p None ≡ Some o → (ks : List (Link N)) × (links_at i.value (model st).nodes ≡ link_to p o ∷ ks)
+    pub first_link : (o : IndexedKey N) → get_or st.neighbors p None ≡ Some o → (ks : List (Link N)) × (links_at i.value (model st).nodes ≡ link_to p o ∷ ks)
     first_link o e = (
       reverse (links_in st.neighbors at_end.before),
       links_there st i.value x there ∙ ap (λ z. reverse (links_in st.neighbors z)) at_end.whole ∙ links_oldest st.neighbors p o at_end.before e,

@@ -1,10 +1,11 @@
 -- The first link of a node goes with its arc: the map stays sound, and the node has one removal less before it.
 use Rattle.std.proofs.Common.{◌≡◌, ℕ, ◌+◌, ◌-◌, ◌≤◌, Bool, true, false, cond, ◌&&◌, eqb, ◌≢◌, List, [], ◌∷◌, ◌++◌, Some, None, Option, sym, refl, ap, ◌∙◌, subst, ⊎_elim, arith}
 use Rattle.std.proofs.lemmas.Bool.{cases_eq, cases_Bool, eq-eqb, ne_eqb, cond-true, cond-false}
-use Rattle.map_model.specs.declared.CompactDirection.{CompactDirection}
-use Rattle.map_model.specs.declared.CompactDirection.TheVariants.{Outgoing, Incoming}
+use Rattle.network.specs.declared.direction.CompactDirection.{CompactDirection}
+use Rattle.network.specs.declared.direction.CompactDirection.TheVariants.{Outgoing, Incoming}
 use Rattle.map_model.specs.Lists.{one, count, found, moved, taken, changed}
-use Rattle.map_model.specs.Model.{opposite, Link, Node, Arc, named, between, links_of, links_to, links_at, relinked, unlinked, all_unlinked, arc_of, all_taken}
+use Rattle.network.specs.Directions.{opposite}
+use Rattle.map_model.specs.Model.{Link, Node, Arc, named, between, links_of, links_to, links_at, relinked, unlinked, all_unlinked, arc_of, all_taken}
 use Rattle.map_model.specs.Sound.{due, Fit}
 use Rattle.map_model.proofs.Searching.{Apart, Keeps, applied, count_changed, count_taken, found_changed, found_changed_other}
 use Rattle.map_model.proofs.Linking.{hits, apart_named, count_unlinked, one_unlinked}

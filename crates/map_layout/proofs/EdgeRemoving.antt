@@ -4,8 +4,8 @@ use Rattle.std.specs.Option.{option_map}
 use Rattle.std.proofs.lemmas.Bool.{cases_eq, eq-eqb, ne_eqb, eqb-true, cond-true, cond-false}
 use Rattle.keys.specs.declared.node_index.NodeIndex.{NodeIndex}
 use Rattle.keyed_table.specs.Listing.{without}
-use Rattle.map_model.specs.declared.CompactDirection.{CompactDirection}
-use Rattle.map_model.specs.declared.CompactDirection.TheVariants.{Outgoing, Incoming}
+use Rattle.network.specs.declared.direction.CompactDirection.{CompactDirection}
+use Rattle.network.specs.declared.direction.CompactDirection.TheVariants.{Outgoing, Incoming}
 use Rattle.map_model.specs.Lists.{count, found, taken}
 use Rattle.map_model.specs.Model.{Node, named, between, links_of, links_to, links_at, relinked, unlinked, both_unlinked, weight_of, edge_removed_at}
 use Rattle.map_model.proofs.Searching.{found_passes, found_counts, none_counts}

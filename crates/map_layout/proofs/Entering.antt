@@ -12,7 +12,7 @@ use Rattle.map_model.specs.Lists as tests
 use Rattle.map_model.specs.Model.{named, relinked, joined, linked}
 use Rattle.map_model.proofs.Searching.{count_push, none_counts, found_push_new}
 use Rattle.map_layout.specs.declared.records.NodeRecord.{NodeRecord}
-use Rattle.map_layout.specs.declared.records.Neighbor.{Neighbor}
+use Rattle.map_layout.specs.declared.records.IndexedKey.{IndexedKey}
 use Rattle.map_layout.specs.Layout.{State, NodeItem, Among, numbered, of_unused, of_node, Idle, Lists, Linked, places_of, direction_at, link_to, links_in, node_of, model}
 use Rattle.map_layout.specs.Steps.{with_links, with_nodes, lone, node_at, entered, entered_by, linked_to, linked_at}
 use Rattle.map_layout.proofs.Members.{among_left, among_push}
@@ -146,7 +146,7 @@ module _ {N E : Type 0} (st : State N E) (n : N) (i : NodeIndex) (base : Base st
     is_after room = ap (λ o. entered_by o n i st) (node_found None e) ∙ ap (with_nodes st) (put_new st.node_places i.value i (lone n) st.nodes e room)
 
     -- a link in one go
-    link_new : (p : ℕ) (o : Neighbor N) → length st.nodes < st.node_places → linked_at n i p o st ≡ linked_to (lone n) i p o after
+    link_new : (p : ℕ) (o : IndexedKey N) → length st.nodes < st.node_places → linked_at n i p o st ≡ linked_to (lone n) i p o after
     link_new p o room =
         let v : NodeRecord N = record { key = n; newest = cond (can_push st.positions None p) (Some p) None; oldest = Some p } in
         ap (λ z. linked_to (unwrap_or z (lone n)) i p o st) (node_found None e)
@@ -166,7 +166,7 @@ module _ {N E : Type 0} (st : State N E) (n : N) (i : NodeIndex) (base : Base st
   enters room = enter_by (found (numbered i.value) st.nodes) refl room
 
   -- ---- and gets a link
-  pub record Joined (p : ℕ) (o : Neighbor N) (st' : State N E) : Type 0 where
+  pub record Joined (p : ℕ) (o : IndexedKey N) (st' : State N E) : Type 0 where
     pub same : Same st st'
     pub neighbors : st'.neighbors ≡ set st.neighbors p (Some o)
     pub shown : (model st').nodes ≡ linked n i.value o.key o.index.value (direction_at p) (model st).nodes
@@ -175,7 +175,7 @@ module _ {N E : Type 0} (st : State N E) (n : N) (i : NodeIndex) (base : Base st
     pub all : (j q : ℕ) → Linked st' j q → Linked st j q ⊎ ((j ≡ i.value) × (q ≡ p))
     pub idle : (q : ℕ) → q ≢ p → Idle st.positions q → Idle st'.positions q
 
-  joined_up : (p : ℕ) (o : Neighbor N) (st1 st2 : State N E) → Entered st n i.value st1 → Attached st1 i.value p o st2 → Joined p o st2
+  joined_up : (p : ℕ) (o : IndexedKey N) (st1 st2 : State N E) → Entered st n i.value st1 → Attached st1 i.value p o st2 → Joined p o st2
   joined_up p o st1 st2 a b = record {
     same = record {
       base = b.same.base;
@@ -194,7 +194,7 @@ module _ {N E : Type 0} (st : State N E) (n : N) (i : NodeIndex) (base : Base st
     idle = λ q ne k. b.idle q ne (subst (λ z. Idle z q) (sym a.positions) k);
   }
 
-  join_by : (p : ℕ) (o : Neighbor N) (f : Option (NodeItem N)) → found (numbered i.value) st.nodes ≡ f → Room → Idle st.positions p → p < length st.positions → Joined p o (linked_at n i p o st)
+  join_by : (p : ℕ) (o : IndexedKey N) (f : Option (NodeItem N)) → found (numbered i.value) st.nodes ≡ f → Room → Idle st.positions p → p < length st.positions → Joined p o (linked_at n i p o st)
   join_by p o None e room free fits =
       subst (Joined p o) (sym (link_new e p o (room e)))
       (joined_up p o (after e) (linked_to (lone n) i p o (after e)) (comes_in e)
@@ -203,5 +203,5 @@ module _ {N E : Type 0} (st : State N E) (n : N) (i : NodeIndex) (base : Base st
       subst (Joined p o) (sym (ap (λ z. linked_to (unwrap_or z (lone n)) i p o st) (node_found (Some x) e)))
       (joined_up p o st (linked_to x.value i p o st) (stays x e) (attaches st i p o x base e free fits))
 
-  pub joins : (p : ℕ) (o : Neighbor N) → Room → Idle st.positions p → p < length st.positions → Joined p o (linked_at n i p o st)
+  pub joins : (p : ℕ) (o : IndexedKey N) → Room → Idle st.positions p → p < length st.positions → Joined p o (linked_at n i p o st)
   joins p o = join_by p o (found (numbered i.value) st.nodes) refl

@@ -1,7 +1,7 @@
 -- Lists of places in one container, of which one is changed.
 use Rattle.std.proofs.Common.{◌≡◌, ℕ, true, false, ◌≢◌, ◌⊎◌, List, [], Some, None, Option, sym, ap, ◌∙◌, subst, ⊎_elim, arith}
 use Rattle.std.proofs.lemmas.Bool.{cases_eq, both_ways}
-use Rattle.linked_list.specs.declared.position.Position.{Position}
+use Rattle.linked_list.specs.Places.{Position}
 use Rattle.linked_list.specs.Chains.{has, Holds, Other, entries_of}
 use Rattle.linked_list.specs.Laws.{OthersStay}
 use Rattle.linked_list.proofs.Members.{has_first}

@@ -5,7 +5,7 @@ use Rattle.std.proofs.lemmas.Bool.{cases_eq, cases_Bool, both_ways, eq-eqb, ne_e
 use Rattle.linked_list.specs.Chains.{has, entries_of}
 use Rattle.linked_list.proofs.Linking.{free_not_in}
 use Rattle.keys.specs.declared.node_index.NodeIndex.{NodeIndex}
-use Rattle.map_model.specs.declared.CompactDirection.TheVariants.{Outgoing, Incoming}
+use Rattle.network.specs.declared.direction.CompactDirection.TheVariants.{Outgoing, Incoming}
 use Rattle.map_model.specs.Lists.{one, count, found, changed}
 use Rattle.map_model.specs.Lists as tests
 use Rattle.map_model.specs.Model.{Node, named, relinked, linked, joined, both_linked, new_keys, with_tables}

@@ -7,7 +7,7 @@ use Rattle.linked_list.specs.Chains.{has, spliced, replaced, swap_removed}
 use Rattle.linked_list.proofs.Members.{none_first, none_rest, none_cons, has_head, has_tail, spliced_here, spliced_later}
 use Rattle.map_model.specs.Lists.{one, count, moved, taken}
 use Rattle.map_model.specs.Model.{Link}
-use Rattle.map_layout.specs.declared.records.Neighbor.{Neighbor}
+use Rattle.map_layout.specs.declared.records.IndexedKey.{IndexedKey}
 use Rattle.map_layout.specs.Layout.{link_to, link_at, links_in}
 use Rattle.map_layout.proofs.Members.{taken_append, moved_push, count_append, count_reverse}
 
@@ -33,19 +33,19 @@ spliced_split p mid [] b h = spliced_here p mid b p refl
 spliced_split p mid (x ∷ a) b h = spliced_later p mid (a ++ p ∷ b) x (λ e. none_first x a p h (sym e)) ∙ ap (λ z. x ∷ z) (spliced_split p mid a b (none_rest x a p h))
 
 module _ {N : Type 0} where
-  pub links_append : (cs : List (Option (Neighbor N))) (a b : List ℕ) → links_in cs (a ++ b) ≡ links_in cs a ++ links_in cs b
+  pub links_append : (cs : List (Option (IndexedKey N))) (a b : List ℕ) → links_in cs (a ++ b) ≡ links_in cs a ++ links_in cs b
   links_append cs [] b = refl
   links_append cs (p ∷ a) b = ap (λ z. link_at p (get_or cs p None) ++ z) (links_append cs a b) ∙ sym (append_assoc (link_at p (get_or cs p None)) (links_in cs a) (links_in cs b))
 
   -- a write at a place that is not listed
-  pub links_set : (cs : List (Option (Neighbor N))) (p : ℕ) (v : Option (Neighbor N)) (l : List ℕ) → has l p ≡ false → links_in (set cs p v) l ≡ links_in cs l
+  pub links_set : (cs : List (Option (IndexedKey N))) (p : ℕ) (v : Option (IndexedKey N)) (l : List ℕ) → has l p ≡ false → links_in (set cs p v) l ≡ links_in cs l
   links_set cs p v [] h = refl
   links_set cs p v (x ∷ l) h =
       ap (λ z. link_at x z ++ links_in (set cs p v) l) (get_or-set_other cs p x v None (λ e. none_first x l p h (sym e)))
       ∙ ap (λ z. link_at x (get_or cs x None) ++ z) (links_set cs p v l (none_rest x l p h))
 
   -- a new link comes last
-  pub links_push : (cs : List (Option (Neighbor N))) (p : ℕ) (o : Neighbor N) (l : List ℕ) → p < length cs → has l p ≡ false
+  pub links_push : (cs : List (Option (IndexedKey N))) (p : ℕ) (o : IndexedKey N) (l : List ℕ) → p < length cs → has l p ≡ false
       → reverse (links_in (set cs p (Some o)) (p ∷ l)) ≡ reverse (links_in cs l) ++ link_to p o ∷ []
   links_push cs p o l r h =
       ap (λ z. reverse (link_at p z ++ links_in (set cs p (Some o)) l)) (get_or-set_same cs p (Some o) None r)
@@ -53,15 +53,15 @@ module _ {N : Type 0} where
       ∙ ap (λ z. reverse z ++ link_to p o ∷ []) (links_set cs p (Some o) l h)
 
   -- the oldest link comes first
-  pub links_oldest : (cs : List (Option (Neighbor N))) (p : ℕ) (o : Neighbor N) (a : List ℕ) → get_or cs p None ≡ Some o
+  pub links_oldest : (cs : List (Option (IndexedKey N))) (p : ℕ) (o : IndexedKey N) (a : List ℕ) → get_or cs p None ≡ Some o
       → reverse (links_in cs (a ++ p ∷ [])) ≡ link_to p o ∷ reverse (links_in cs a)
   links_oldest cs p o a e =
       ap reverse (links_append cs a (p ∷ []) ∙ ap (λ z. links_in cs a ++ (link_at p z ++ [])) e)
       ∙ reverse-append (links_in cs a) (link_to p o ∷ [])
 
-  module _ (cs : List (Option (Neighbor N))) (q : Link N → Bool) where
+  module _ (cs : List (Option (IndexedKey N))) (q : Link N → Bool) where
     -- the last link goes
-    take_last : (p : ℕ) (o : Neighbor N) (l : List ℕ) → get_or cs p None ≡ Some o → q (link_to p o) ≡ true → count q (links_in cs (p ∷ l)) ≤ 1
+    take_last : (p : ℕ) (o : IndexedKey N) (l : List ℕ) → get_or cs p None ≡ Some o → q (link_to p o) ≡ true → count q (links_in cs (p ∷ l)) ≤ 1
         → taken q (reverse (links_in cs (p ∷ l))) ≡ reverse (links_in cs l)
     take_last p o l e t c =
         let k = link_to p o in
@@ -76,7 +76,7 @@ module _ {N : Type 0} where
         ∙ append-nil (reverse (links_in cs l))
 
     -- another link goes, and the last comes in its place
-    take_inner : (p f : ℕ) (o g : Neighbor N) (a b : List ℕ) → get_or cs p None ≡ Some o → get_or cs f None ≡ Some g → q (link_to p o) ≡ true
+    take_inner : (p f : ℕ) (o g : IndexedKey N) (a b : List ℕ) → get_or cs p None ≡ Some o → get_or cs f None ≡ Some g → q (link_to p o) ≡ true
         → count q (links_in cs (f ∷ (a ++ p ∷ b))) ≤ 1 → taken q (reverse (links_in cs (f ∷ (a ++ p ∷ b)))) ≡ reverse (links_in cs (a ++ f ∷ b))
     take_inner p f o g a b e h t c =
         let A = links_in cs a in
@@ -104,7 +104,7 @@ module _ {N : Type 0} where
         ∙ ap reverse (sym w3)
 
     -- the newest place comes where p was: the last link comes in the place of the one that goes
-    pub links_swap : (p : ℕ) (o : Neighbor N) (l : List ℕ) → has l p ≡ true → ((x : ℕ) → has l x ≡ true → (g : Neighbor N) × (get_or cs x None ≡ Some g))
+    pub links_swap : (p : ℕ) (o : IndexedKey N) (l : List ℕ) → has l p ≡ true → ((x : ℕ) → has l x ≡ true → (g : IndexedKey N) × (get_or cs x None ≡ Some g))
         → get_or cs p None ≡ Some o → q (link_to p o) ≡ true → count q (reverse (links_in cs l)) ≤ 1
         → reverse (links_in cs (swap_removed p l)) ≡ taken q (reverse (links_in cs l))
     links_swap p o [] h full e t c = absurd (false≢true h)
@@ -125,6 +125,6 @@ module _ {N : Type 0} where
         (cases_eq f p)
 
 -- the neighbours agree on what is listed
-pub links_agree : {N : Type 0} (cs ds : List (Option (Neighbor N))) (l : List ℕ) → ((x : ℕ) → has l x ≡ true → get_or cs x None ≡ get_or ds x None) → links_in cs l ≡ links_in ds l
+pub links_agree : {N : Type 0} (cs ds : List (Option (IndexedKey N))) (l : List ℕ) → ((x : ℕ) → has l x ≡ true → get_or cs x None ≡ get_or ds x None) → links_in cs l ≡ links_in ds l
 links_agree cs ds [] h = refl
 links_agree cs ds (p ∷ l) h = ap (λ z. link_at p z ++ links_in cs l) (h p (has_head p l)) ∙ ap (λ z. link_at p (get_or ds p None) ++ z) (links_agree cs ds l (λ x e. h x (has_tail p l x e)))

@@ -5,15 +5,15 @@ use Rattle.std.proofs.lemmas.Bool.{cases_eq, eq-eqb, ne_eqb, eqb-true, and_from,
 use Rattle.linked_list.specs.Chains.{has, last, last_from, entries_of}
 use Rattle.keys.specs.declared.node_index.NodeIndex.{NodeIndex}
 use Rattle.keyed_table.specs.Listing.{without}
-use Rattle.map_model.specs.declared.CompactDirection.{CompactDirection}
-use Rattle.map_model.specs.declared.CompactDirection.TheVariants.{Outgoing, Incoming}
+use Rattle.network.specs.declared.direction.CompactDirection.{CompactDirection}
+use Rattle.network.specs.declared.direction.CompactDirection.TheVariants.{Outgoing, Incoming}
 use Rattle.map_model.specs.Lists.{one, count, found, taken, changed}
 use Rattle.map_model.specs.Lists as tests
 use Rattle.map_model.specs.Model.{same_direction, Link, Model, named, between, links_of, links_to, links_at, relinked, unlinked, all_unlinked, arc_of, all_taken, with_tables, node_removed_at}
 use Rattle.map_model.specs.Sound.{Fit}
 use Rattle.map_model.proofs.Searching.{count_taken, count_taken_other}
 use Rattle.map_layout.specs.declared.records.NodeRecord.{NodeRecord}
-use Rattle.map_layout.specs.declared.records.Neighbor.{Neighbor}
+use Rattle.map_layout.specs.declared.records.IndexedKey.{IndexedKey}
 use Rattle.map_layout.specs.Layout.{State, NodeItem, numbered, of_unused, of_node, Names, Lists, Linked, Rep, partner, direction_at, link_to, links_in, places_of, arc_in, node_of, model}
 use Rattle.map_layout.specs.Steps.{with_nodes, node_at, swapped_out_of, dropped_out_of, place_given, arc_gone}
 use Rattle.map_layout.specs.Edits.{Good, ends_number, oldest_of, oldest_at, neighbor_at, number_at, cut, Cut, node_gone}
@@ -51,7 +51,7 @@ oldest_linked st i p rep e = go (node_at i st) refl
         let h : x.value.oldest ≡ Some p = ap (λ (v : NodeRecord _). v.oldest) s.value ∙ sym (ap oldest_of f) ∙ e in
         linked_of st i x (base_of rep) s.there p (ended (places_of st.positions x) p (sym (rep.oldest x a) ∙ h)).here
 
-module _ {N E : Type 0} (st : State N E) (good : Good st) (i : NodeIndex) (p : ℕ) (o : Neighbor N)
+module _ {N E : Type 0} (st : State N E) (good : Good st) (i : NodeIndex) (p : ℕ) (o : IndexedKey N)
     (oldest : oldest_at i.value st ≡ Some p) (there : neighbor_at p st ≡ Some o) where
   linked : Linked st i.value p
   linked = oldest_linked st i.value p good.rep oldest

@@ -2,14 +2,14 @@
 use Rattle.std.proofs.Common.{◌≡◌, ℕ, ◌+◌, ◌*◌, ◌%◌, ◌<◌, ◌≤◌, true, ◌≢◌, ◌⊎◌, List, [], ◌∷◌, ◌++◌, length, get_or, None, Option, sym, ap, ◌∙◌, subst, ⊎_elim, arith}
 use Rattle.std.proofs.lemmas.Bool.{cases_eq}
 use Rattle.linked_list.specs.Chains.{has, entries_of}
-use Rattle.map_layout.specs.declared.records.Neighbor.{Neighbor}
+use Rattle.map_layout.specs.declared.records.IndexedKey.{IndexedKey}
 use Rattle.map_layout.specs.Layout.{State, ArcItem, Among, Idle, Names, Paired, Seated, Spare, Linked, Rep, partner, source_of, target_of}
 use Rattle.map_layout.proofs.Members.{among_push}
 use Rattle.map_layout.proofs.Places.{has_cons}
 use Rattle.map_layout.proofs.Pairs.{partner_even, partner_odd}
 use Rattle.map_layout.proofs.Stepping.{Base}
 
-pub names_kept : {N : Type 0} (cs ds : List (Option (Neighbor N))) (p j : ℕ) → get_or ds p None ≡ get_or cs p None → Names cs p j → Names ds p j
+pub names_kept : {N : Type 0} (cs ds : List (Option (IndexedKey N))) (p j : ℕ) → get_or ds p None ≡ get_or cs p None → Names cs p j → Names ds p j
 names_kept cs ds p j e n = record { neighbor = n.neighbor; there = e ∙ n.there; named = n.named }
 
 -- the other link of an arc has a place of its own

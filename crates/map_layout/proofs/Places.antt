@@ -1,10 +1,11 @@
 -- Lists of places: what is in them, and what comes last, after one change.
+use Rattle.std.specs.Option.{option_or}
 use Rattle.std.proofs.Common.{◌≡◌, ℕ, true, false, cond, eqb, ◌≢◌, ◌⊎◌, List, [], ◌∷◌, ◌++◌, Some, None, Option, sym, refl, ap, ◌∙◌, subst, inl, inr, ⊎_elim, append-nil, arith}
 use Rattle.std.proofs.lemmas.Bool.{cases_eq, cases_Bool, eqb-true, eq-eqb, ne_eqb, or_cases, or_left, or_right, false≢true, both_ways, cond-true, cond-false}
 use Rattle.linked_list.specs.Chains.{has, first, last_from, last, without, replaced, swap_removed}
 use Rattle.linked_list.proofs.Members.{has_head, has_tail, has_append}
 use Rattle.linked_list.proofs.Linking.{Differ}
-use Rattle.map_layout.specs.Steps.{else_some, last_swapped}
+use Rattle.map_layout.specs.Steps.{last_swapped}
 use Rattle.map_layout.proofs.Links.{split, spliced_split}
 
 -- ---- members
@@ -88,11 +89,11 @@ gone_swap (f ∷ l) p d h =
     (cases_eq f p)
 
 -- ---- what comes last
-pub last_cons : (p : ℕ) (l : List ℕ) → last (p ∷ l) ≡ else_some (last l) p
+pub last_cons : (p : ℕ) (l : List ℕ) → last (p ∷ l) ≡ option_or (last l) (Some p)
 last_cons p [] = refl
-last_cons p (x ∷ l) = let e = last_cons x l in e ∙ go (last l) ∙ ap (λ z. else_some z p) (sym e)
+last_cons p (x ∷ l) = let e = last_cons x l in e ∙ go (last l) ∙ ap (λ z. option_or z (Some p)) (sym e)
   where
-    go : (o : Option ℕ) → else_some o x ≡ else_some (else_some o x) p
+    go : (o : Option ℕ) → option_or o (Some x) ≡ option_or (option_or o (Some x)) (Some p)
     go None = refl
     go (Some y) = refl
 

@@ -1,7 +1,7 @@
 -- A place of an arc is taken, or given back.
 use Rattle.std.proofs.Common.{◌≡◌, ℕ, suc, ◌+◌, ◌*◌, ◌%◌, ◌<◌, ◌≤◌, Bool, true, false, cond, not, ltb, ◌≢◌, ◌⊎◌, List, [], ◌∷◌, reverse, length, Some, None, Option, unwrap_or, sym, refl, ap, ◌∙◌, subst, inl, inr, ⊎_elim, arith}
 use Rattle.std.proofs.lemmas.Bool.{cases_eq, lt-ltb, and_from, not_from_false}
-use Rattle.linked_list.specs.declared.position.Position.{Position}
+use Rattle.linked_list.specs.Places.{Position}
 use Rattle.linked_list.specs.Places.{is_in, at}
 use Rattle.linked_list.specs.Chains.{has, last, Holds, entries_of, can_push, after_push, can_pop, after_pop, start_after_pop, can_remove, after_remove}
 use Rattle.linked_list.specs.Laws.{OthersStay}

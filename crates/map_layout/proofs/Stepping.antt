@@ -1,7 +1,7 @@
 -- The list of one node is changed.
 use Rattle.std.proofs.Common.{◌≡◌, ℕ, suc, ◌≤◌, true, false, ◌≢◌, ◌⊎◌, List, reverse, length, get_or, Some, None, Option, sym, refl, ap, ◌∙◌, subst, ⊎_elim, arith}
 use Rattle.std.proofs.lemmas.Bool.{both_ways, eqb-true, eq-eqb, ne_eqb}
-use Rattle.linked_list.specs.declared.position.Position.{Position}
+use Rattle.linked_list.specs.Places.{Position}
 use Rattle.linked_list.specs.Chains.{has, last, Holds, entries_of}
 use Rattle.linked_list.specs.Laws.{OthersStay}
 use Rattle.linked_list.proofs.Linking.{holds_read}
@@ -10,7 +10,7 @@ use Rattle.map_model.specs.Lists.{count, found, changed}
 use Rattle.map_model.specs.Model.{Link, named, relinked}
 use Rattle.map_model.proofs.Searching.{count_changed, found_passes}
 use Rattle.map_layout.specs.declared.records.NodeRecord.{NodeRecord}
-use Rattle.map_layout.specs.declared.records.Neighbor.{Neighbor}
+use Rattle.map_layout.specs.declared.records.IndexedKey.{IndexedKey}
 use Rattle.map_layout.specs.Layout.{State, NodeItem, Among, numbered, of_unused, of_node, Held, Idle, Lists, Linked, places_of, links_in, node_of, model}
 use Rattle.map_layout.specs.Steps.{with_links}
 use Rattle.map_layout.proofs.Members.{among_found, found_among, among_changed, among_unchanged, among_change}
@@ -26,7 +26,7 @@ pub record Base {N E : Type 0} (st : State N E) : Type 0 where
   pub level : length st.neighbors ≡ length st.positions
 
 -- the node i has the record v, the neighbours are cs and the positions M
-abbrev pub restated : {N E : Type 0} → State N E → ℕ → NodeRecord N → List (Option (Neighbor N)) → List Position → State N E
+abbrev pub restated : {N E : Type 0} → State N E → ℕ → NodeRecord N → List (Option (IndexedKey N)) → List Position → State N E
 restated st i v cs M = with_links st (changed (numbered i) (with_value v) st.nodes) cs M
 
 module _ {N E : Type 0} (st : State N E) (i : ℕ) (x : NodeItem N) (base : Base st) (there : found (numbered i) st.nodes ≡ Some x) where
@@ -53,14 +53,14 @@ module _ {N E : Type 0} (st : State N E) (i : ℕ) (x : NodeItem N) (base : Base
   of_linked p o = subst (λ u. has (entries_of st.positions u) p ≡ true) (start_of o.start o.begins) o.has_it
 
 -- in M the list of x is l, which begins and ends as v says, and every other list is as it was
-pub record Change {N E : Type 0} (st : State N E) (x : NodeItem N) (v : NodeRecord N) (cs : List (Option (Neighbor N))) (M : List Position) (l : List ℕ) : Type 0 where
+pub record Change {N E : Type 0} (st : State N E) (x : NodeItem N) (v : NodeRecord N) (cs : List (Option (IndexedKey N))) (M : List Position) (l : List ℕ) : Type 0 where
   pub holds : Holds M v.newest l
   pub others : OthersStay st.positions x.value.newest M
   pub head : (y : ℕ) → v.newest ≡ Some y → Idle st.positions y ⊎ (has (places_of st.positions x) y ≡ true)
   pub ends : v.oldest ≡ last l
   pub level : length cs ≡ length M
 
-module _ {N E : Type 0} {st : State N E} (i : ℕ) {x : NodeItem N} {v : NodeRecord N} {cs : List (Option (Neighbor N))} {M : List Position} {l : List ℕ}
+module _ {N E : Type 0} {st : State N E} (i : ℕ) {x : NodeItem N} {v : NodeRecord N} {cs : List (Option (IndexedKey N))} {M : List Position} {l : List ℕ}
     (base : Base st) (there : found (numbered i) st.nodes ≡ Some x) (ch : Change st x v cs M l) where
   new_start : (u : Option ℕ) → Lists (restated st i v cs M) (suc i) u → u ≡ v.newest
   new_start u (of_unused e f) = absurd (omega arith)

@@ -7,7 +7,7 @@ use Rattle.map_model.specs.Lists.{count, taken}
 use Rattle.map_model.specs.Model.{between}
 use Rattle.map_model.specs.Sound.{Sound}
 use Rattle.map_model.proofs.Searching.{count_taken}
-use Rattle.map_layout.specs.declared.records.Neighbor.{Neighbor}
+use Rattle.map_layout.specs.declared.records.IndexedKey.{IndexedKey}
 use Rattle.map_layout.specs.Layout.{State, ArcItem, Among, numbered, Idle, Names, Lists, Linked, Rep, partner, source_of, target_of, arc_in, model}
 use Rattle.map_layout.specs.Steps.{place_given, arc_gone}
 use Rattle.map_layout.specs.Edits.{ends_number}
@@ -82,11 +82,11 @@ lost_one st st1 a b ne i l =
     }
 
 -- ---- an arc from i to j whose links are at e and e + 1
-names_one : {N : Type 0} (cs : List (Option (Neighbor N))) (p i j : ℕ) → Names cs p i → Names cs p j → i ≡ j
+names_one : {N : Type 0} (cs : List (Option (IndexedKey N))) (p i j : ℕ) → Names cs p i → Names cs p j → i ≡ j
 names_one cs p i j a b =
     let s = a.there in let t = b.there in let u = a.named in let v = b.named in
     let w : a.neighbor ≡ b.neighbor = cc in
-    sym u ∙ ap (λ (z : Neighbor _). z.index.value) w ∙ v
+    sym u ∙ ap (λ (z : IndexedKey _). z.index.value) w ∙ v
 
 pub record ArcAt {N E : Type 0} (st : State N E) (i j e : ℕ) : Type 0 where
   pub even : e % 2 ≡ 0

@@ -6,13 +6,13 @@ use Rattle.keys.specs.declared.ends.Ends.{Ends}
 use Rattle.keys.specs.declared.node_index.NodeIndex.{NodeIndex}
 use Rattle.keys.specs.Numbers.{pair_number}
 use Rattle.keyed_table.specs.Listing.{without}
-use Rattle.linked_list.specs.declared.position.Position.{Position}
+use Rattle.linked_list.specs.Places.{Position}
 use Rattle.map_model.specs.Lists.{taken}
 use Rattle.map_model.specs.Model.{new_keys, named, links_at, all_unlinked, all_taken}
 use Rattle.map_model.specs.Sound.{Sound}
 use Rattle.map_layout.specs.declared.records.NodeRecord.{NodeRecord}
 use Rattle.map_layout.specs.declared.records.ArcRecord.{ArcRecord}
-use Rattle.map_layout.specs.declared.records.Neighbor.{Neighbor}
+use Rattle.map_layout.specs.declared.records.IndexedKey.{IndexedKey}
 use Rattle.map_layout.specs.Layout.{State, Rep, partner, model}
 use Rattle.map_layout.specs.Steps.{with_nodes, node_at, linked_at, swapped_out_of, dropped_out_of, new_place, place_taken, place_given, arc_at, arc_put, arc_gone}
 
@@ -27,7 +27,7 @@ ends_number i j = pair_number i.value j.value
 abbrev pub ends_of : NodeIndex → NodeIndex → Ends NodeIndex
 ends_of i j = record { source = i; target = j }
 
-abbrev pub neighbor : {N : Type 0} → N → NodeIndex → Neighbor N
+abbrev pub neighbor : {N : Type 0} → N → NodeIndex → IndexedKey N
 neighbor n i = record { key = n; index = i }
 
 -- ---- a weight is replaced
@@ -103,7 +103,7 @@ oldest_of (Some r) = r.oldest
 abbrev pub oldest_at : {N E : Type 0} → ℕ → State N E → Option ℕ
 oldest_at i st = oldest_of (node_at i st)
 
-abbrev pub neighbor_at : {N E : Type 0} → ℕ → State N E → Option (Neighbor N)
+abbrev pub neighbor_at : {N E : Type 0} → ℕ → State N E → Option (IndexedKey N)
 neighbor_at p st = slice_index_or st.neighbors p None
 
 -- the number of the arc that the link at p, of the node i to j, stands for
@@ -131,5 +131,5 @@ abbrev pub node_gone : {N E : Type 0} → NodeIndex → State N E → State N E
 node_gone i st = with_nodes st (without i.value st.nodes)
 
 -- ---- no node and no arc
-abbrev pub empty : {N E : Type 0} → List (Option (Neighbor N)) → List Position → ℕ → ℕ → State N E
+abbrev pub empty : {N E : Type 0} → List (Option (IndexedKey N)) → List Position → ℕ → ℕ → State N E
 empty cs L n m = record { nodes = []; arcs = []; neighbors = cs; positions = L; unused = None; fresh = 0; node_places = n; arc_places = m }

@@ -3,17 +3,16 @@ use Rattle.std.specs.Prelude.{◌≡◌, ℕ, suc, ◌+◌, ◌-◌, ◌*◌, �
 use Rattle.keys.specs.declared.ends.Ends.{Ends}
 use Rattle.keys.specs.declared.node_index.NodeIndex.{NodeIndex}
 use Rattle.keyed_table.specs.declared.slots.Item.{Item}
-use Rattle.linked_list.specs.declared.position.Position.{Position}
-use Rattle.linked_list.specs.declared.position.Position.TheVariants.{Free}
+use Rattle.linked_list.specs.Places.{Position}
 use Rattle.linked_list.specs.Places.{at}
 use Rattle.linked_list.specs.Chains.{has, last, Holds, Other, entries_of}
-use Rattle.map_model.specs.declared.CompactDirection.{CompactDirection}
-use Rattle.map_model.specs.declared.CompactDirection.TheVariants.{Outgoing, Incoming}
+use Rattle.network.specs.declared.direction.CompactDirection.{CompactDirection}
+use Rattle.network.specs.declared.direction.CompactDirection.TheVariants.{Outgoing, Incoming}
 use Rattle.map_model.specs.Lists.{count}
 use Rattle.map_model.specs.Model.{Link, Node, Arc, Model}
 use Rattle.map_layout.specs.declared.records.NodeRecord.{NodeRecord}
 use Rattle.map_layout.specs.declared.records.ArcRecord.{ArcRecord}
-use Rattle.map_layout.specs.declared.records.Neighbor.{Neighbor}
+use Rattle.map_layout.specs.declared.records.IndexedKey.{IndexedKey}
 
 -- ---- what the tables hold
 abbrev pub NodeItem : Type 0 → Type 0
@@ -27,7 +26,7 @@ ArcItem N E = Item (Ends NodeIndex) (ArcRecord N E)
 pub record State (N E : Type 0) : Type 0 where
   pub nodes : List (NodeItem N)
   pub arcs : List (ArcItem N E)
-  pub neighbors : List (Option (Neighbor N))
+  pub neighbors : List (Option (IndexedKey N))
   pub positions : List Position
   pub unused : Option ℕ
   pub fresh : ℕ
@@ -44,15 +43,15 @@ direction_at p = cond (p % 2 == 0) Outgoing Incoming
 abbrev pub partner : ℕ → ℕ
 partner p = cond (p % 2 == 0) (p + 1) (p - 1)
 
-abbrev pub link_to : {N : Type 0} → ℕ → Neighbor N → Link N
+abbrev pub link_to : {N : Type 0} → ℕ → IndexedKey N → Link N
 link_to p o = record { key = o.key; index = o.index.value; direction = direction_at p }
 
-abbrev pub link_at : {N : Type 0} → ℕ → Option (Neighbor N) → List (Link N)
+abbrev pub link_at : {N : Type 0} → ℕ → Option (IndexedKey N) → List (Link N)
 link_at p None = []
 link_at p (Some o) = link_to p o ∷ []
 
 -- the links at a list of places
-abbrev pub links_in : {N : Type 0} → List (Option (Neighbor N)) → List ℕ → List (Link N)
+abbrev pub links_in : {N : Type 0} → List (Option (IndexedKey N)) → List ℕ → List (Link N)
 links_in cs [] = []
 links_in cs (p ∷ l) = link_at p (slice_index_or cs p None) ++ links_in cs l
 
@@ -60,7 +59,7 @@ links_in cs (p ∷ l) = link_at p (slice_index_or cs p None) ++ links_in cs l
 abbrev pub places_of : {N : Type 0} → List Position → NodeItem N → List ℕ
 places_of L x = entries_of L x.value.newest
 
-abbrev pub node_of : {N : Type 0} → List (Option (Neighbor N)) → List Position → NodeItem N → Node N
+abbrev pub node_of : {N : Type 0} → List (Option (IndexedKey N)) → List Position → NodeItem N → Node N
 node_of cs L x = record { key = x.value.key; index = x.number; links = reverse (links_in cs (places_of L x)) }
 
 abbrev pub source_of : {N E : Type 0} → ArcItem N E → ℕ
@@ -105,23 +104,23 @@ pub record Owns (B : ℕ → Option ℕ → Type 0) (L : List Position) (k p : �
   pub has_it : has (entries_of L start) p ≡ true
 
 abbrev pub Idle : List Position → ℕ → Type 0
-Idle L p = at L p ≡ Free
+Idle L p = at L p ≡ None
 
 -- the place p names the node j as neighbour
-pub record Names {N : Type 0} (cs : List (Option (Neighbor N))) (p j : ℕ) : Type 0 where
-  pub neighbor : Neighbor N
+pub record Names {N : Type 0} (cs : List (Option (IndexedKey N))) (p j : ℕ) : Type 0 where
+  pub neighbor : IndexedKey N
   pub there : get_or cs p None ≡ Some neighbor
   pub named : neighbor.index.value ≡ j
 
 -- a link of the node i: the other end has the other link of its arc, a loop has no other
-pub record Paired {N : Type 0} (O : ℕ → ℕ → Type 0) (L : List Position) (cs : List (Option (Neighbor N))) (i p : ℕ) : Type 0 where
+pub record Paired {N : Type 0} (O : ℕ → ℕ → Type 0) (L : List Position) (cs : List (Option (IndexedKey N))) (i p : ℕ) : Type 0 where
   pub other : ℕ
   pub names : Names cs p other
   pub loop : other ≡ i → (p % 2 ≡ 0) × Idle L (p + 1)
   pub back : (other ≢ i) → O other (partner p) × Names cs (partner p) i
 
 -- an arc has its outgoing link at its own place
-pub record Seated {N E : Type 0} (O : ℕ → ℕ → Type 0) (cs : List (Option (Neighbor N))) (y : ArcItem N E) : Type 0 where
+pub record Seated {N E : Type 0} (O : ℕ → ℕ → Type 0) (cs : List (Option (IndexedKey N))) (y : ArcItem N E) : Type 0 where
   pub even : y.value.place % 2 ≡ 0
   pub owned : O (source_of y) y.value.place
   pub names : Names cs y.value.place (target_of y)

@@ -1,18 +1,18 @@
 -- One step on the tables.
 use Rattle.std.specs.Prelude.{ℕ, ◌+◌, Bool, true, false, cond, List, Some, None, Option, slice_set}
-use Rattle.std.specs.Option.{unwrap_or}
+use Rattle.std.specs.Option.{unwrap_or, option_or}
 use Rattle.keys.specs.declared.ends.Ends.{Ends}
 use Rattle.keys.specs.declared.node_index.NodeIndex.{NodeIndex}
 use Rattle.keyed_table.specs.Listing.{value_at, inserted, without}
-use Rattle.linked_list.specs.declared.position.Position.{Position}
+use Rattle.linked_list.specs.Places.{Position}
 use Rattle.linked_list.specs.Places.{names, prev_of, at}
 use Rattle.linked_list.specs.Chains.{can_push, after_push, can_remove, after_remove, start_after_remove, can_pop, after_pop, start_after_pop, can_swap, after_swap, start_after_swap}
 use Rattle.map_layout.specs.declared.records.NodeRecord.{NodeRecord}
 use Rattle.map_layout.specs.declared.records.ArcRecord.{ArcRecord}
-use Rattle.map_layout.specs.declared.records.Neighbor.{Neighbor}
+use Rattle.map_layout.specs.declared.records.IndexedKey.{IndexedKey}
 use Rattle.map_layout.specs.Layout.{State, NodeItem, ArcItem}
 
-abbrev pub with_links : {N E : Type 0} → State N E → List (NodeItem N) → List (Option (Neighbor N)) → List Position → State N E
+abbrev pub with_links : {N E : Type 0} → State N E → List (NodeItem N) → List (Option (IndexedKey N)) → List Position → State N E
 with_links st nodes cs L = record {
   nodes = nodes;
   arcs = st.arcs;
@@ -71,20 +71,16 @@ abbrev pub entered : {N E : Type 0} → N → NodeIndex → State N E → State 
 entered n i st = entered_by (node_at i.value st) n i st
 
 -- ---- links
-abbrev pub else_some : Option ℕ → ℕ → Option ℕ
-else_some None p = Some p
-else_some (Some o) p = Some o
-
 -- a node with the record r gets a link at the place p, to o
-abbrev pub linked_to : {N E : Type 0} → NodeRecord N → NodeIndex → ℕ → Neighbor N → State N E → State N E
+abbrev pub linked_to : {N E : Type 0} → NodeRecord N → NodeIndex → ℕ → IndexedKey N → State N E → State N E
 linked_to r i p o st =
     with_links st
-    (node_put i (record { key = r.key; newest = cond (can_push st.positions r.newest p) (Some p) r.newest; oldest = else_some r.oldest p }) st)
+    (node_put i (record { key = r.key; newest = cond (can_push st.positions r.newest p) (Some p) r.newest; oldest = option_or r.oldest (Some p) }) st)
     (slice_set st.neighbors p (Some o))
     (cond (can_push st.positions r.newest p) (after_push st.positions r.newest p) st.positions)
 
 -- the node i, which is put last where it is not there, gets a link
-abbrev pub linked_at : {N E : Type 0} → N → NodeIndex → ℕ → Neighbor N → State N E → State N E
+abbrev pub linked_at : {N E : Type 0} → N → NodeIndex → ℕ → IndexedKey N → State N E → State N E
 linked_at n i p o st = linked_to (unwrap_or (node_at i.value st) (lone n)) i p o st
 
 -- what comes last once the first of a list has taken the place of p

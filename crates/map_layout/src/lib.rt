@@ -4,4 +4,4 @@
 
 pub mod records;
 
-pub use records::{ArcRecord, Neighbor, NodeRecord};
+pub use records::{ArcRecord, IndexedKey, NodeRecord};

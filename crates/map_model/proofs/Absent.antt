@@ -1,7 +1,7 @@
 -- Where nothing is found, nothing changes.
 use Rattle.std.proofs.Common.{◌≡◌, ℕ, ◌+◌, Bool, true, false, cond, eqb, List, [], ◌∷◌, Some, None, refl, ap, ◌∙◌, arith}
-use Rattle.map_model.specs.declared.CompactDirection.{CompactDirection}
-use Rattle.map_model.specs.declared.CompactDirection.TheVariants.{Outgoing, Incoming}
+use Rattle.network.specs.declared.direction.CompactDirection.{CompactDirection}
+use Rattle.network.specs.declared.direction.CompactDirection.TheVariants.{Outgoing, Incoming}
 use Rattle.map_model.specs.Lists.{one, count, found, moved, taken, changed}
 use Rattle.map_model.specs.Model.{Node, Model, named, links_to, between, links_of, links_at, relinked, unlinked, both_unlinked, edge_removed_at}
 use Rattle.map_model.specs.Sound.{Sound}

@@ -1,8 +1,8 @@
 -- The links of a node, counted after a change of the nodes.
 use Rattle.std.proofs.Common.{◌≡◌, ℕ, ◌+◌, ◌-◌, ◌≤◌, Bool, true, false, cond, ◌&&◌, ◌||◌, eqb, List, [], ◌∷◌, ◌++◌, Some, None, Option, sym, refl, ap, ◌∙◌, subst, arith}
 use Rattle.std.proofs.lemmas.Bool.{false≢true, eqb-true, eq-eqb, and_parts}
-use Rattle.map_model.specs.declared.CompactDirection.{CompactDirection}
-use Rattle.map_model.specs.declared.CompactDirection.TheVariants.{Outgoing, Incoming}
+use Rattle.network.specs.declared.direction.CompactDirection.{CompactDirection}
+use Rattle.network.specs.declared.direction.CompactDirection.TheVariants.{Outgoing, Incoming}
 use Rattle.map_model.specs.Lists.{one, count, has, found, taken}
 use Rattle.map_model.specs.Model.{same_direction, Link, Node, Arc, named, links_to, between, links_of, links_at, joined, relinked, linked, unlinked}
 use Rattle.map_model.proofs.Searching.{Apart, applied, count_taken, count_taken_other, none_found, count_changed, found_changed, found_changed_other, count_push, found_push, found_push_new, has_counts}

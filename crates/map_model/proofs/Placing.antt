@@ -3,12 +3,13 @@ use Rattle.std.proofs.Common.{◌≡◌, ℕ, ◌+◌, ◌-◌, ◌≤◌, Bool,
 use Rattle.fault.specs.declared.Fault.{Fault}
 use Rattle.fault.specs.declared.Fault.TheVariants.{NodesFull, ArcsFull}
 use Rattle.std.proofs.lemmas.Bool.{eqb-true, ltb-true, leb-true}
-use Rattle.map_model.specs.declared.CompactDirection.{CompactDirection}
-use Rattle.map_model.specs.declared.CompactDirection.TheVariants.{Outgoing, Incoming}
+use Rattle.network.specs.declared.direction.CompactDirection.{CompactDirection}
+use Rattle.network.specs.declared.direction.CompactDirection.TheVariants.{Outgoing, Incoming}
 use Rattle.map_model.specs.declared.Edit.{Edit}
 use Rattle.map_model.specs.declared.Edit.TheVariants.{AddNode, AddEdge, RemoveNode, RemoveEdge}
 use Rattle.map_model.specs.Lists.{one, has, front, moved, taken, changed}
-use Rattle.map_model.specs.Model.{opposite, Link, Node, Arc, Model, named, links_to, between, links_at, weight_at, joined, relinked, linked, both_linked, unlinked, both_unlinked, all_unlinked, weighed, arc_of, all_taken, with_tables, new_keys, node_added_at, new_edge_added_at, edge_put_at, edge_removed_at, node_removed_at, edited, built, run}
+use Rattle.network.specs.Directions.{opposite}
+use Rattle.map_model.specs.Model.{Link, Node, Arc, Model, named, links_to, between, links_at, weight_at, joined, relinked, linked, both_linked, unlinked, both_unlinked, all_unlinked, weighed, arc_of, all_taken, with_tables, new_keys, node_added_at, new_edge_added_at, edge_put_at, edge_removed_at, node_removed_at, edited, built, run}
 use Rattle.map_model.specs.Sound.{Placed}
 use Rattle.map_model.proofs.Searching.{Keeps}
 use Rattle.map_model.proofs.Linking.{link, new_node}

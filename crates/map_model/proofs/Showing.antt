@@ -3,10 +3,11 @@ use Rattle.std.proofs.Common.{◌≡◌, ℕ, ◌+◌, ◌≤◌, Bool, true, fa
 use mathlib.Core.List.{Memᴰ}
 use Rattle.std.proofs.lemmas.Bool.Decides.{nat_tests}
 use Rattle.std.proofs.lemmas.Bool.{false≢true, eqb-true, eqb-false, eq-eqb, ne_eqb, and_parts}
-use Rattle.map_model.specs.declared.CompactDirection.{CompactDirection}
-use Rattle.map_model.specs.declared.CompactDirection.TheVariants.{Outgoing, Incoming}
+use Rattle.network.specs.declared.direction.CompactDirection.{CompactDirection}
+use Rattle.network.specs.declared.direction.CompactDirection.TheVariants.{Outgoing, Incoming}
 use Rattle.map_model.specs.Lists.{one, count, has, found, kept, present, All}
-use Rattle.map_model.specs.Model.{opposite, same_direction, Link, Node, Arc, Model, named, links_to, between, links_of, links_at, weight_of, weight_at, arc_of, built, run}
+use Rattle.network.specs.Directions.{opposite}
+use Rattle.map_model.specs.Model.{same_direction, Link, Node, Arc, Model, named, links_to, between, links_of, links_at, weight_of, weight_at, arc_of, built, run}
 use Rattle.map_model.specs.Shown.{nodes_shown, all_edges_shown, shows, with_ends, edge_of, edges_shown}
 use Rattle.map_model.specs.Sound.{Fit, Sound, LinkStored, NodeStored, Stored}
 use Rattle.map_model.specs.Statements.{EndsDiffer}

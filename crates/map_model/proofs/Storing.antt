@@ -2,12 +2,13 @@
 use Rattle.std.proofs.Common.{ℕ, ◌+◌, Bool, true, false, cond, ◌||◌, eqb, ltb, leb, List, [], ◌∷◌, ◌++◌, length, Some, None, Ok, Err, Option, Result, refl}
 use Rattle.fault.specs.declared.Fault.{Fault}
 use Rattle.fault.specs.declared.Fault.TheVariants.{NodesFull, ArcsFull}
-use Rattle.map_model.specs.declared.CompactDirection.{CompactDirection}
-use Rattle.map_model.specs.declared.CompactDirection.TheVariants.{Outgoing, Incoming}
+use Rattle.network.specs.declared.direction.CompactDirection.{CompactDirection}
+use Rattle.network.specs.declared.direction.CompactDirection.TheVariants.{Outgoing, Incoming}
 use Rattle.map_model.specs.declared.Edit.{Edit}
 use Rattle.map_model.specs.declared.Edit.TheVariants.{AddNode, AddEdge, RemoveNode, RemoveEdge}
 use Rattle.map_model.specs.Lists.{has, last, front, moved, taken, changed, All}
-use Rattle.map_model.specs.Model.{opposite, Link, Node, Arc, Model, named, links_to, between, links_at, weight_at, joined, linked, both_linked, unlinked, both_unlinked, all_unlinked, weighed, arc_of, all_taken, with_tables, new_keys, node_added, new_edge_added_at, edge_put_at, node_removed, edited, built, run}
+use Rattle.network.specs.Directions.{opposite}
+use Rattle.map_model.specs.Model.{Link, Node, Arc, Model, named, links_to, between, links_at, weight_at, joined, linked, both_linked, unlinked, both_unlinked, all_unlinked, weighed, arc_of, all_taken, with_tables, new_keys, node_added, new_edge_added_at, edge_put_at, node_removed, edited, built, run}
 use Rattle.map_model.specs.Sound.{LinkStored, NodeStored, ArcStored, Stored}
 
 -- ---- what holds of each one

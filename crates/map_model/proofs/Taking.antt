@@ -2,10 +2,11 @@
 use Rattle.std.proofs.Common.{◌≡◌, ℕ, ◌+◌, ◌-◌, ◌≤◌, Bool, true, false, cond, ◌&&◌, ◌||◌, eqb, List, [], ◌∷◌, None, sym, refl, ap, ◌∙◌, subst, arith}
 use Rattle.std.proofs.lemmas.Bool.Decides.{nat_tests}
 use Rattle.std.proofs.lemmas.Bool.{eqb-true, eqb-false, eq-eqb, ne_eqb}
-use Rattle.map_model.specs.declared.CompactDirection.{CompactDirection}
-use Rattle.map_model.specs.declared.CompactDirection.TheVariants.{Outgoing, Incoming}
+use Rattle.network.specs.declared.direction.CompactDirection.{CompactDirection}
+use Rattle.network.specs.declared.direction.CompactDirection.TheVariants.{Outgoing, Incoming}
 use Rattle.map_model.specs.Lists.{one, count, found, taken}
-use Rattle.map_model.specs.Model.{opposite, same_direction, Link, Node, Arc, named, links_to, between, links_of, links_at, unlinked, all_unlinked, arc_of, all_taken}
+use Rattle.network.specs.Directions.{opposite}
+use Rattle.map_model.specs.Model.{same_direction, Link, Node, Arc, named, links_to, between, links_of, links_at, unlinked, all_unlinked, arc_of, all_taken}
 use Rattle.map_model.specs.Sound.{due, Fit}
 use Rattle.map_model.proofs.Searching.{count_taken, count_taken_other, none_found, found_taken_other}
 use Rattle.map_model.proofs.Linking.{hits, apart_named, apart_between, count_arc, count_unlinked, one_unlinked}

@@ -1,8 +1,8 @@
 -- What a map's questions and cursors have to do with its nodes and arcs, and what every run of edits keeps.
 use Rattle.std.specs.Prelude.{◌≡◌, ℕ, true, ◌↔◌, List, [], ◌∷◌, map, ◌≢◌}
 use mathlib.Core.List.{Memᴰ}
-use Rattle.map_model.specs.declared.CompactDirection.{CompactDirection}
-use Rattle.map_model.specs.declared.CompactDirection.TheVariants.{Outgoing, Incoming}
+use Rattle.network.specs.declared.direction.CompactDirection.{CompactDirection}
+use Rattle.network.specs.declared.direction.CompactDirection.TheVariants.{Outgoing, Incoming}
 use Rattle.map_model.specs.declared.Edit.{Edit}
 use Rattle.map_model.specs.Lists.{All}
 use Rattle.map_model.specs.Model.{Model, built, run}

@@ -2,17 +2,14 @@
 use Rattle.std.specs.Prelude.{ℕ, ◌+◌, Bool, true, false, cond, ◌&&◌, ◌||◌, List, [], ◌∷◌, ◌++◌, length, Some, None, Ok, Err, Option, Result, ◌==◌, nat_le, nat_lt}
 use Rattle.fault.specs.declared.Fault.{Fault}
 use Rattle.fault.specs.declared.Fault.TheVariants.{NodesFull, ArcsFull}
-use Rattle.map_model.specs.declared.CompactDirection.{CompactDirection}
-use Rattle.map_model.specs.declared.CompactDirection.TheVariants.{Outgoing, Incoming}
+use Rattle.network.specs.Directions.{opposite}
+use Rattle.network.specs.declared.direction.CompactDirection.{CompactDirection}
+use Rattle.network.specs.declared.direction.CompactDirection.TheVariants.{Outgoing, Incoming}
 use Rattle.map_model.specs.declared.Edit.{Edit}
 use Rattle.map_model.specs.declared.Edit.TheVariants.{AddNode, AddEdge, RemoveNode, RemoveEdge}
 use Rattle.map_model.specs.declared.Answer.{Answer}
 use Rattle.map_model.specs.declared.Answer.TheVariants.{NodeAdded, EdgeAdded, NodeRemoved, EdgeRemoved}
 use Rattle.map_model.specs.Lists.{has, found, taken, changed}
-
-abbrev pub opposite : CompactDirection → CompactDirection
-opposite Outgoing = Incoming
-opposite Incoming = Outgoing
 
 abbrev pub same_direction : CompactDirection → CompactDirection → Bool
 same_direction Outgoing Outgoing = true

@@ -1,7 +1,7 @@
 -- What the questions and the cursors of a map show.
 use Rattle.std.specs.Prelude.{ℕ, Bool, ◌||◌, List, map, length, Some, None, Option, ◌==◌}
-use Rattle.map_model.specs.declared.CompactDirection.{CompactDirection}
-use Rattle.map_model.specs.declared.CompactDirection.TheVariants.{Outgoing, Incoming}
+use Rattle.network.specs.declared.direction.CompactDirection.{CompactDirection}
+use Rattle.network.specs.declared.direction.CompactDirection.TheVariants.{Outgoing, Incoming}
 use Rattle.map_model.specs.Lists.{has, kept, present}
 use Rattle.map_model.specs.Model.{same_direction, Link, Arc, Model, between, links_at, weight_at}
 

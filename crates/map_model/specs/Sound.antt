@@ -1,7 +1,7 @@
 -- What every edit keeps of a map: each node and each arc stands once, and the links of a node are its arcs.
 use Rattle.std.specs.Prelude.{◌≡◌, ℕ, ◌≤◌, cond, List, length, ◌==◌}
-use Rattle.map_model.specs.declared.CompactDirection.{CompactDirection}
-use Rattle.map_model.specs.declared.CompactDirection.TheVariants.{Outgoing, Incoming}
+use Rattle.network.specs.declared.direction.CompactDirection.{CompactDirection}
+use Rattle.network.specs.declared.direction.CompactDirection.TheVariants.{Outgoing, Incoming}
 use Rattle.map_model.specs.Lists.{count, All}
 use Rattle.map_model.specs.Model.{Link, Node, Arc, Model, named, links_to, between, links_at}
 

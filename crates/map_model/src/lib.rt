@@ -4,12 +4,12 @@
 
 ghost use Rattle.std.specs.Prelude.{◌≡◌, T, length};
 ghost use Rattle.map_model.specs.Answers.{number_of_answer, granted};
-ghost use Rattle.map_model.specs.Model.{opposite};
 ghost use Rattle.map_model.specs.Statements.{AllEdgesShowWhatWasGrantedLast};
 ghost use Rattle.map_model.specs.Laws.{QuestionsAgreeAfterEveryRun, EveryRunKeepsTheMap};
 ghost use Rattle.map_model.specs.Known.{known_answers, KnownAnswersStand};
 
 use fault::Fault;
+pub use network::CompactDirection;
 
 /// An edit of a map whose nodes have keys of type `N` and whose edges have weights of type `E`.
 #[derive(Clone, Copy)]
@@ -54,27 +54,6 @@ impl<N, E> Answer<N, E> {
         ensures { result ≡ granted self.now }
     {
         self.number().is_none()
-    }
-}
-
-/// The direction of a link, seen from the node that has it.
-#[derive(Clone, Copy)]
-pub enum CompactDirection {
-    /// The link is of an edge that begins at the node.
-    Outgoing,
-    /// The link is of an edge that ends at the node.
-    Incoming,
-}
-
-impl CompactDirection {
-    /// Return the opposite `CompactDirection`.
-    pub fn opposite(self) -> CompactDirection
-        ensures { result ≡ opposite self }
-    {
-        match self {
-            CompactDirection::Outgoing => CompactDirection::Incoming,
-            CompactDirection::Incoming => CompactDirection::Outgoing,
-        }
     }
 }
 

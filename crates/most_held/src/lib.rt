@@ -9,7 +9,7 @@ ghost use Rattle.most_held.specs.Bounds.{bound_by_nodes, Bounded, bounds, NoMore
 use graphmap::OpenMap;
 use greedy_order::bounds::{most_held_by_half, most_held_by_nodes};
 use keys::{Key, NodeKey};
-use network::{Arc, ArcSource, loop_count};
+use network::{Arc, ArcSource, Arcs, loop_count};
 
 /// Two bounds on how many arcs an order holds.
 #[derive(Clone, Copy)]
@@ -31,15 +31,8 @@ fn has_opposite<N: NodeKey, E: Copy>(map: &OpenMap<'_, '_, N, E>, arc: Arc<N, E>
 pub fn opposite_count<N: NodeKey, E: Copy>(map: &OpenMap<'_, '_, N, E>) -> u32
     ensures { result ≡ opposites N.NodeKey.index (map_model map.now.map.now) }
 {
-    let mut opposites = 0;
-    for position in 0..map.arc_count() {
-        if let Some(arc) = map.arc_at(position) {
-            if has_opposite(map, arc) {
-                opposites += 1;
-            }
-        }
-    }
-    opposites
+    let opposites = Arcs::new(map).filter(|arc| has_opposite(map, *arc)).count();
+    opposites as u32
 }
 
 // The bound by nodes, where it holds.
@@ -47,11 +40,7 @@ fn by_nodes(arcs: u32, touched: u32, loops: u32, opposites: u32) -> Option<u32>
     ensures value { result ≡ bound_by_nodes arcs touched loops opposites }
     ensures bound { Bounded arcs touched result }
 {
-    if loops == 0 && opposites == 0 {
-        Some(most_held_by_nodes(arcs, touched))
-    } else {
-        None
-    }
+    (loops == 0 && opposites == 0).then(|| most_held_by_nodes(arcs, touched))
 }
 
 /// The most arcs of a map that could have been held, where its order lists `touched` nodes.

@@ -1,3 +1,4 @@
 pub mod Sums
 pub mod Touched
 pub mod Sources
+pub mod Dropping

@@ -4,3 +4,4 @@ pub mod Network
 pub mod Walks
 pub mod Places
 pub mod Sources
+pub mod Directions

@@ -37,11 +37,6 @@ impl<'a, N: NodeKey, E: Copy> ArcSource for ArcSlice<'a, N, E> {
     }
 
     fn arc_at(&self, position: u32) -> Option<Arc<N, E>> {
-        let i = position as usize;
-        if i < self.arcs.len() {
-            Some(self.arcs[i])
-        } else {
-            None
-        }
+        self.arcs.get(position as usize).copied()
     }
 }

@@ -81,6 +81,10 @@ pub length_arcs_of : (bytes : List ℕ) → arc_count bytes ≡ length (arcs_of 
 unfolding arcs_of
 length_arcs_of bytes = sym (length_arcs bytes (arcs_begin bytes) (arc_count bytes))
 
+-- the records fill a file after its contents table
+pub sized : (bytes : List ℕ) → Whole bytes → length bytes ≡ 16 + 4 * length (nodes_of bytes) + 12 * length (arcs_of bytes)
+sized bytes whole = omega (arith, whole.all, length_nodes_of bytes, length_arcs_of bytes)
+
 -- the record at a position
 nth_field : (bytes : List ℕ) (at count k : ℕ) → k < count → slice_get (fields_from bytes at count) k ≡ Some (field_at bytes (at + 4 * k))
 nth_field bytes at zero k h = absurd (omega arith)

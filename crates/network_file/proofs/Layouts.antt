@@ -1,9 +1,10 @@
 -- Fields laid out and read again.
-use Rattle.std.proofs.Common.{◌≡◌, ℕ, zero, suc, ◌+◌, ◌-◌, ◌*◌, ◌/◌, ◌%◌, ◌^◌, ◌<◌, ◌≤◌, List, [], ◌∷◌, ◌++◌, length, get_or, drop, sym, refl, ap, ◌∙◌, append_assoc, arith, length-append}
+use Rattle.std.proofs.Common.{◌≡◌, ℕ, zero, suc, ◌+◌, ◌-◌, ◌*◌, ◌/◌, ◌%◌, ◌^◌, ◌<◌, ◌≤◌, List, [], ◌∷◌, ◌++◌, length, get_or, drop, Ok, sym, refl, ap, ◌∙◌, append_assoc, arith, length-append}
+use Rattle.std.proofs.lemmas.Bool.Decides.{nat_tests}
 use native.Mathlib.Nat.{div-div-eq-div-mul, div-add-mod, mod-mod}
 use Rattle.std.specs.List.{flat_map, AllByRecursion}
 use Rattle.std.proofs.lemmas.List.{drop_more, get_or-append_right}
-use Rattle.network_file.specs.Fields.{field_bytes, byte_at, field_at, fields_from}
+use Rattle.network_file.specs.Fields.{field_bytes, byte_at, field_at, field_read, fields_from}
 use Rattle.network_file.specs.Laws.{Bytes}
 use Rattle.network_file.specs.Layout.{arc_fields}
 use Rattle.network_file.specs.Reading.{arcs_from}
@@ -122,3 +123,7 @@ length_laid (n ∷ fields) = omega (arith, length-append (field_bytes n) (flat_m
 pub length_arc_fields : (arcs : List FileArc) → length (flat_map arc_fields arcs) ≡ 3 * length arcs
 length_arc_fields [] = refl
 length_arc_fields (arc ∷ arcs) = omega (arith, length_arc_fields arcs)
+
+-- a field that a file answers is what stands there
+pub read_is : (bytes : List ℕ) (at x : ℕ) → field_read bytes at ≡ Ok x → x ≡ field_at bytes at
+read_is bytes at x e = grind (arith, nat_tests)

@@ -1,5 +1,5 @@
 -- What the contents table of a file says, and what stands where it points.
-use Rattle.std.specs.Prelude.{◌≡◌, ℕ, zero, suc, ◌+◌, ◌*◌, ◌<◌, List, [], ◌∷◌, length}
+use Rattle.std.specs.Prelude.{◌≡◌, ℕ, zero, suc, ◌+◌, ◌*◌, ◌/◌, ◌<◌, List, [], ◌∷◌, length}
 use Rattle.network_file.specs.Fields.{field_at, fields_from}
 use Rattle.network_file.specs.Layout.{Contents}
 use Rattle.network_file.specs.declared.arc.FileArc.{FileArc}
@@ -28,6 +28,17 @@ nodes_of bytes = fields_from bytes 16 (node_count bytes)
 
 unfoldable pub arcs_of : List ℕ → List FileArc
 arcs_of bytes = arcs_from bytes (arcs_begin bytes) (arc_count bytes)
+
+-- the numbers of the whole fields of some bytes, one after another
+unfoldable pub numbers_in : List ℕ → List ℕ
+numbers_in bytes = fields_from bytes 0 (length bytes / 4)
+
+-- the arcs whose records hold numbers, three for each
+abbrev pub arcs_in : List ℕ → List FileArc
+arcs_in [] = []
+arcs_in (source ∷ []) = []
+arcs_in (source ∷ target ∷ []) = []
+arcs_in (source ∷ target ∷ weight ∷ numbers) = record { source = source; target = target; weight = weight } ∷ arcs_in numbers
 
 abbrev pub contents_of : List ℕ → Contents
 contents_of bytes = record { nodes = nodes_of bytes; arcs = arcs_of bytes }

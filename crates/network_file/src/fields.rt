@@ -1,16 +1,18 @@
 // Fields of a network file: 32 bits, the low byte first.
 
-ghost use Rattle.std.specs.Prelude.{◌≡◌, ◌+◌, ◌^◌, ◌<◌, ◌≤◌, length};
-ghost use Rattle.network_file.specs.Fields.{byte_at, field_at, field_read};
-ghost use Rattle.network_file.specs.Reading.{arc_from};
+ghost use Rattle.std.specs.Prelude.{◌≡◌, ◌+◌, ◌<◌, ◌≤◌, length, drop, MatchOption};
+ghost use Rattle.network_file.specs.Fields.{field_at, field_read};
 
-use crate::arc::FileArc;
 use fault::Fault;
 
 /// A network file is shorter than this many bytes.
 pub const FILE_LIMIT: usize = 65536;
 
+// The bytes of the contents table, and so where the nodes begin.
+pub(crate) const NODES_BEGIN: u32 = 16;
+
 // The field at `at`, which the bytes hold whole.
+#[tactic(auto, unfolding(crate::specs::Fields::byte_at, crate::specs::Fields::field_at))]
 pub(crate) fn whole_field(bytes: &[u8], at: usize) -> u32
     requires { at + 4 ≤ length bytes.now }
     ensures { result ≡ field_at bytes.now at }
@@ -18,40 +20,18 @@ pub(crate) fn whole_field(bytes: &[u8], at: usize) -> u32
     u32::from_le_bytes([bytes[at], bytes[at + 1], bytes[at + 2], bytes[at + 3]])
 }
 
-// The byte at `i`, or 0 past the end.
-fn byte_at(bytes: &[u8], i: usize) -> u8
-    ensures { result ≡ byte_at bytes.now i }
+// The first field of some bytes, and the bytes after it.
+#[tactic(auto, using(crate::proofs::Walks::first_field))]
+pub(crate) fn split_field(bytes: &[u8]) -> Option<(u32, &[u8])>
+    ensures { MatchOption result (length bytes.now < 4) (λ first. (4 ≤ length bytes.now) × (first.0 ≡ field_at bytes.now 0) × (first.1.now ≡ drop 4 bytes.now)) }
 {
-    if i < bytes.len() { bytes[i] } else { 0 }
-}
-
-// The field at `at`, whose bytes past the end are 0.
-pub(crate) fn field_at(bytes: &[u8], at: usize) -> u32
-    requires { at < 2 ^ 40 }
-    ensures { result ≡ field_at bytes.now at }
-{
-    u32::from_le_bytes([
-        byte_at(bytes, at),
-        byte_at(bytes, at + 1),
-        byte_at(bytes, at + 2),
-        byte_at(bytes, at + 3),
-    ])
-}
-
-// The arc whose record begins at `at`.
-pub(crate) fn arc_from(bytes: &[u8], at: usize) -> FileArc
-    requires { at < 2 ^ 39 }
-    ensures { result ≡ arc_from bytes.now at }
-{
-    FileArc {
-        source: field_at(bytes, at),
-        target: field_at(bytes, at + 4),
-        weight: field_at(bytes, at + 8),
-    }
+    let (field, rest) = bytes.split_first_chunk()?;
+    Some((u32::from_le_bytes(*field), rest))
 }
 
 /// The field of the file `bytes` that begins at byte `at`. A file of 65,536 bytes or more has no fields
 /// (`FileTooLarge`), and a field that the file does not hold whole is refused with the file's length (`FileLength`).
+#[tactic(auto, using(crate::proofs::Walks::field_part))]
 pub fn field(bytes: &[u8], at: usize) -> Result<u32, Fault>
     ensures { result ≡ field_read bytes.now at }
 {
@@ -59,8 +39,8 @@ pub fn field(bytes: &[u8], at: usize) -> Result<u32, Fault>
     if length >= FILE_LIMIT {
         return Err(Fault::FileTooLarge);
     }
-    if length < 4 || at > length - 4 {
+    let Some((field, _)) = bytes.get(at..).and_then(split_field) else {
         return Err(Fault::FileLength(length as u32));
-    }
-    Ok(whole_field(bytes, at))
+    };
+    Ok(field)
 }

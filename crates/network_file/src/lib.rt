@@ -7,8 +7,10 @@ mod checks;
 mod fields;
 mod records;
 mod view;
+mod walk;
 
 pub use arc::FileArc;
 pub use checks::check;
 pub use fields::{FILE_LIMIT, field};
 pub use view::NetworkFile;
+pub use walk::{Arcs, Numbers};

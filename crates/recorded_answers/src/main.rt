@@ -2,12 +2,9 @@
 
 #![tactic(auto)]
 
-mod edits;
 mod orders;
-mod words;
 
 use std::io::{BufRead, BufReader};
-use words::Words;
 
 // How many records of a kind there are, and how many agree.
 #[derive(Clone, Copy)]
@@ -42,10 +39,12 @@ fn main(rt: HostRuntime) -> anyhow::Result<()> {
     let mut others = Tally::new();
     for line in BufReader::new(rt.alloc(), rt.stdin())?.lines(rt.alloc()) {
         let line = line?;
-        let mut words = Words::new(line.as_str());
-        match words.word() {
-            Some("edits") => edit_lists = edit_lists.with(edits::record(rt.alloc(), &mut words)?),
-            Some("order") => orders = orders.with(orders::record(rt.alloc(), &mut words)?),
+        let words: Vec<&str> = line.as_str().split(' ').collect(rt.alloc())?;
+        match words.as_slice() {
+            ["edits", rest @ ..] => {
+                edit_lists = edit_lists.with(edit_records::record(rt.alloc(), rest)?);
+            }
+            ["order", rest @ ..] => orders = orders.with(orders::record(rt.alloc(), rest)?),
             _ => others = others.with(false),
         }
     }

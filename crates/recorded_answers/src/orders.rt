@@ -1,117 +1,93 @@
 // Recorded orders: the nodes in their sequence and the positions of the held arcs.
 
-use crate::words::Words;
-use feedback_arc_set::{ClassPlace, FasNode, NeighbourPlace, Ordering};
-use keyed_table::Slot;
-use keys::{Junction, Key, NodeIndex};
+use edit_records::{after_number, number};
+use feedback_arc_set::Ordering;
+use heap_tables::WorkTables;
+use keys::{Junction, Key};
 use network::{Arc, ArcSlice};
-use std::alloc::Global;
+use std::alloc::{AllocError, Global};
 
 type JunctionArc = Arc<Junction, u32>;
 
 // The most arcs that are ordered.
 const MOST_ARCS: u32 = 16384;
 
-// Whether the order lists the recorded nodes, and no more.
-fn same_order(words: &mut Words<'_>, ordering: &Ordering<'_>) -> Option<bool> {
-    let count = words.number()?;
-    let mut same = count == ordering.touched();
-    for place in 0..count {
-        let recorded = words.number()?;
-        let here = match ordering.node_at(place) {
-            Some(node) => node.get() == recorded,
-            None => false,
-        };
-        same = same && here;
+// The words after the nodes of an order, where they are the recorded ones, and no more.
+fn after_order<'w, 'a>(words: &'w [&'a str], ordering: &Ordering<'_>) -> Option<&'w [&'a str]> {
+    let (mut count, mut rest) = number(words)?;
+    for node in ordering.nodes() {
+        count = count.checked_sub(1)?;
+        rest = after_number(rest, node.get())?;
     }
-    Some(same)
+    (count == 0).then_some(rest)
 }
 
-// Whether the held arcs stand at the recorded positions, and no more are held.
-fn same_held(
-    words: &mut Words<'_>,
+// The words after the positions of the held arcs, where they are the recorded ones, and no more.
+fn after_held<'w, 'a>(
+    words: &'w [&'a str],
     ordering: &Ordering<'_>,
     source: &ArcSlice<'_, Junction, u32>,
-) -> Option<bool> {
-    let count = words.number()?;
-    let Ok(mut held) = ordering.held(source) else {
-        return Some(false);
-    };
-    let mut same = true;
+) -> Option<&'w [&'a str]> {
+    let mut held = ordering.held(source).ok()?;
+    let (count, mut rest) = number(words)?;
     for _ in 0..count {
-        let recorded = words.number()?;
-        let here = match held.next(source) {
-            Some(shown) => shown.position == recorded,
-            None => false,
-        };
-        same = same && here;
+        rest = after_number(rest, held.next(source)?.position)?;
     }
-    Some(same && held.next(source).is_none())
-}
-
-fn same(
-    words: &mut Words<'_>,
-    ordering: &Ordering<'_>,
-    source: &ArcSlice<'_, Junction, u32>,
-) -> Option<bool> {
-    let order = same_order(words, ordering)?;
-    let held = same_held(words, ordering, source)?;
-    Some(order && held)
+    held.next(source).is_none().then_some(rest)
 }
 
 // Orders the arcs of a record in tables that are just large enough, and compares.
-fn agrees(heap: Global, words: &mut Words<'_>, arcs: &[JunctionArc]) -> anyhow::Result<bool> {
+fn orders_as(heap: Global, arcs: &[JunctionArc], words: &[&str]) -> Result<bool, AllocError> {
     let count = arcs.len().min(MOST_ARCS as usize);
-    let mut entries: Vec<Slot<NodeIndex, FasNode>> = vec![in heap; Slot::blank(); 2 * count]?;
-    let mut neighbours: Vec<NeighbourPlace> = vec![in heap; NeighbourPlace::blank(); 2 * count]?;
-    let mut classes: Vec<ClassPlace> = vec![in heap; ClassPlace::blank(); 2 * count + 1]?;
-    let mut order: Vec<NodeIndex> = vec![in heap; NodeIndex::new(0); 2 * count]?;
-    let mut ordering = Ordering::new(
-        entries.as_mut_slice(),
-        neighbours.as_mut_slice(),
-        classes.as_mut_slice(),
-        order.as_mut_slice(),
-    );
+    let mut tables = WorkTables::new(heap, 2 * count, count)?;
+    let mut ordering = tables.ordering();
     let Some(source) = ArcSlice::new(arcs) else {
         return Ok(false);
     };
     if ordering.greedy_feedback_arc_set(&source).is_err() {
         return Ok(false);
     }
-    Ok(match same(words, &ordering, &source) {
-        Some(same) => same,
-        None => false,
-    })
+    let Some(rest) = after_order(words, &ordering) else {
+        return Ok(false);
+    };
+    Ok(after_held(rest, &ordering, &source).is_some())
 }
 
-fn read_arc(words: &mut Words<'_>) -> Option<JunctionArc> {
-    let source = Junction::new(words.number()?);
-    let target = Junction::new(words.number()?);
-    Some(Arc {
-        source,
-        target,
+// The arc that the words begin with, and the words after it.
+fn arc<'w, 'a>(words: &'w [&'a str]) -> Option<(JunctionArc, &'w [&'a str])> {
+    let (source, words) = number(words)?;
+    let (target, words) = number(words)?;
+    let arc = Arc {
+        source: Junction::new(source),
+        target: Junction::new(target),
         weight: 0,
-    })
+    };
+    Some((arc, words))
 }
 
-fn read_arcs(words: &mut Words<'_>, arcs: &mut Vec<JunctionArc>) -> anyhow::Result<Option<()>> {
-    let Some(count) = words.number() else {
+// A count and so many arcs, and the words after them.
+fn arcs<'w, 'a>(
+    heap: Global,
+    words: &'w [&'a str],
+) -> Result<Option<(Vec<JunctionArc>, &'w [&'a str])>, AllocError> {
+    let Some((count, mut rest)) = number(words) else {
         return Ok(None);
     };
+    let mut arcs: Vec<JunctionArc> = Vec::new(heap);
     for _ in 0..count {
-        match read_arc(words) {
-            Some(arc) => arcs.push(arc)?,
-            None => return Ok(None),
-        }
+        let Some((arc, after)) = arc(rest) else {
+            return Ok(None);
+        };
+        arcs.push(arc)?;
+        rest = after;
     }
-    Ok(Some(()))
+    Ok(Some((arcs, rest)))
 }
 
-/// Whether the rest of a record of an order agrees; a record that is none does not.
-pub fn record(heap: Global, words: &mut Words<'_>) -> anyhow::Result<bool> {
-    let mut arcs: Vec<JunctionArc> = Vec::new(heap);
-    match read_arcs(words, &mut arcs)? {
-        Some(()) => agrees(heap, words, arcs.as_slice()),
-        None => Ok(false),
-    }
+/// Whether the words of a record of an order, after its first, agree; words that are no record do not.
+pub fn record(heap: Global, words: &[&str]) -> Result<bool, AllocError> {
+    let Some((arcs, words)) = arcs(heap, words)? else {
+        return Ok(false);
+    };
+    orders_as(heap, arcs.as_slice(), words)
 }

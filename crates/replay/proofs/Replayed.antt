@@ -51,13 +51,6 @@ module _ {N E : Type 0} (ix : N → ℕ) (m₀ : Model N E) (s₀ : List (Step N
             ∙ ap (λ l. take i s ++ replayed ix m l) (sym c) ∙ g.steps;
       }
 
-  -- the same for the step that is read at j, where j is i
-  pub going_read : (m m' : Model N E) (s : List (Step N E)) (i j : ℕ) (d : Step N E) (r : Answer N E) → i < length s₀ → Going ix m₀ s₀ m s i → j ≡ i
-      → r ≡ (edited ix m (get_or s j d).edit).0 → m' ≡ (edited ix m (get_or s j d).edit).1
-      → Going ix m₀ s₀ m' (set s i (record { edit = (get_or s j d).edit; answer = Some r })) (i + 1)
-  going_read m m' s i j d r h g same er em =
-      going_more m m' s i (get_or s j d) d r h g (ap (λ k. get_or s k d) same ∙ going_at m s i d g) er em
-
   pub going_all : (m : Model N E) (s : List (Step N E)) (i : ℕ) → length s₀ ≤ i → Going ix m₀ s₀ m s i → (s ≡ replayed ix m₀ s₀) × (m ≡ run ix m₀ (edits_of s₀))
   going_all m s i h g =
       let le : length s ≤ i = omega (arith, g.long) in

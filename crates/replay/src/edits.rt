@@ -29,12 +29,7 @@ pub fn replay_edits<N: NodeKey, E: Copy>(map: &mut GraphMap<'_, N, E>, steps: &m
     ensures shown { map_model map.new ≡ run N.NodeKey.index (map_model map.old) (edits_of steps.old) }
     ensures promise { AllEdgesShowWhatWasGrantedLast N E }
 {
-    for i in 0..steps.len() {
-        let edit = steps[i].edit;
-        let answer = apply(map, edit);
-        steps[i] = Step {
-            edit,
-            answer: Some(answer),
-        };
+    for step in steps.iter_mut() {
+        step.answer = Some(apply(map, step.edit));
     }
 }

@@ -24,11 +24,7 @@ pub fn replay<'a, N: NodeKey, E: Copy>(
     ensures run { MatchResult result (λ answer. (places_fit places.old ≡ true) × Ran N.NodeKey.index (length places.old.nodes.now) (length places.old.arcs.now) steps.old steps.new (map_model map.new) ordering.old ordering.new answer) (λ fault. (places_fit places.old ≡ false) × (fault ≡ TablesUnfit) × (map.new ≡ map.old) × (places.new ≡ places.old) × (steps.new ≡ steps.old) × (ordering.new ≡ ordering.old)) }
     ensures promises { AllPromises N E }
 {
-    match map.with_capacity(places) {
-        Err(fault) => Err(fault),
-        Ok(()) => {
-            replay_edits(map, steps);
-            Ok(ordering.greedy_feedback_arc_set(&map.open()))
-        }
-    }
+    map.with_capacity(places)?;
+    replay_edits(map, steps);
+    Ok(ordering.greedy_feedback_arc_set(&map.open()))
 }

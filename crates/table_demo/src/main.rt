@@ -6,56 +6,36 @@
 mod uses;
 
 use fault::Fault;
-use keyed_table::{KeyedTable, Slot};
-use keys::{Ends, Junction, Key, LaneAddress, LaneRecord, NodeIndex};
+use keyed_table::{Full, KeyedTable, Slot};
+use keys::{Ends, Junction, LaneAddress, LaneRecord, NodeIndex};
 use std::io;
 use uses::left_at_other;
 
-#[derive(Clone, Copy)]
-struct Lanes {
-    first: LaneAddress,
-    second: LaneAddress,
-    third: LaneAddress,
-    fourth: LaneAddress,
-}
-
 fn print_items(rt: HostRuntime, table: &KeyedTable<'_, LaneAddress, LaneRecord>) -> io::Result<()> {
-    let free = table.free();
-    print!(rt; "  free {free}:")?;
-    for i in 0..table.len() {
-        if let Some(item) = table.at(i) {
-            let junction = item.key.junction();
-            let arm = item.key.arm();
-            let lane = item.key.lane();
-            let lanes = item.value.lanes;
-            let share = item.value.turning_share;
-            print!(rt; " {i}:{junction}/{arm}/{lane}={lanes},{share}")?;
-        }
+    print!(rt; "  free {}:", table.free())?;
+    for (i, item) in (0..table.len()).zip(table.iter()) {
+        print!(rt; " {i}:{}={}", item.key, item.value)?;
     }
     println!(rt; "")
+}
+
+fn record(lanes: u32, turning_share: u32) -> LaneRecord {
+    LaneRecord {
+        lanes,
+        turning_share,
+    }
 }
 
 fn insert(
     rt: HostRuntime,
     table: &mut KeyedTable<'_, LaneAddress, LaneRecord>,
     key: LaneAddress,
-    lanes: u32,
-    share: u32,
+    value: LaneRecord,
 ) -> io::Result<()> {
-    match table.insert(
-        key,
-        LaneRecord {
-            lanes,
-            turning_share: share,
-        },
-    ) {
+    match table.insert(key, value) {
         Ok(None) => println!(rt; "insert: new")?,
-        Ok(Some(old)) => {
-            let lanes = old.lanes;
-            let share = old.turning_share;
-            println!(rt; "insert: replaced {lanes},{share}")?
-        }
-        Err(_) => println!(rt; "insert: full")?,
+        Ok(Some(old)) => println!(rt; "insert: replaced {old}")?,
+        Err(Full) => println!(rt; "insert: full")?,
     }
     print_items(rt, table)
 }
@@ -66,11 +46,7 @@ fn remove(
     key: LaneAddress,
 ) -> io::Result<()> {
     match table.swap_remove(&key) {
-        Some(old) => {
-            let lanes = old.lanes;
-            let share = old.turning_share;
-            println!(rt; "remove: {lanes},{share}")?
-        }
+        Some(old) => println!(rt; "remove: {old}")?,
         None => println!(rt; "remove: absent")?,
     }
     print_items(rt, table)
@@ -80,16 +56,9 @@ fn change(
     rt: HostRuntime,
     table: &mut KeyedTable<'_, LaneAddress, LaneRecord>,
     position: u32,
-    lanes: u32,
-    share: u32,
+    value: LaneRecord,
 ) -> io::Result<()> {
-    if table.set_at(
-        position,
-        LaneRecord {
-            lanes,
-            turning_share: share,
-        },
-    ) {
+    if table.set_at(position, value) {
         println!(rt; "change at {position}")?;
     } else {
         println!(rt; "change at {position}: past the end")?;
@@ -108,27 +77,22 @@ fn find(
     }
 }
 
-fn act(rt: HostRuntime, lanes: Lanes) -> io::Result<()> {
-    let Lanes {
-        first,
-        second,
-        third,
-        fourth,
-    } = lanes;
+fn act(rt: HostRuntime, lanes: [LaneAddress; 4]) -> io::Result<()> {
+    let [first, second, third, fourth] = lanes;
     let mut slots = [Slot::blank(); 3];
     let mut table = KeyedTable::new(&mut slots);
-    insert(rt, &mut table, first, 2, 300)?;
-    insert(rt, &mut table, second, 1, 700)?;
-    insert(rt, &mut table, third, 1, 1000)?;
-    insert(rt, &mut table, fourth, 3, 50)?;
-    insert(rt, &mut table, first, 4, 250)?;
+    insert(rt, &mut table, first, record(2, 300))?;
+    insert(rt, &mut table, second, record(1, 700))?;
+    insert(rt, &mut table, third, record(1, 1000))?;
+    insert(rt, &mut table, fourth, record(3, 50))?;
+    insert(rt, &mut table, first, record(4, 250))?;
     find(rt, &table, third)?;
     remove(rt, &mut table, first)?;
     find(rt, &table, third)?;
     remove(rt, &mut table, first)?;
-    insert(rt, &mut table, fourth, 3, 50)?;
-    change(rt, &mut table, 1, 9, 990)?;
-    change(rt, &mut table, 3, 9, 990)?;
+    insert(rt, &mut table, fourth, record(3, 50))?;
+    change(rt, &mut table, 1, record(9, 990))?;
+    change(rt, &mut table, 3, record(9, 990))?;
     table.clear();
     println!(rt; "clear")?;
     print_items(rt, &table)
@@ -157,21 +121,16 @@ fn print_other_keys(rt: HostRuntime) -> io::Result<()> {
 
 // Tells why an address was refused.
 fn refused(rt: HostRuntime, fault: Fault) -> io::Result<()> {
-    let number = fault.number();
-    println!(rt; "address refused with {number}")
+    println!(rt; "address refused with {}", fault.number())
 }
 
-fn lanes_with(arm: u8) -> Result<Lanes, Fault> {
-    let first = LaneAddress::new(12, 0, 1)?;
-    let second = LaneAddress::new(12, 0, 2)?;
-    let third = LaneAddress::new(16_777_215, 15, 15)?;
-    let fourth = LaneAddress::new(40, arm, 0)?;
-    Ok(Lanes {
-        first,
-        second,
-        third,
-        fourth,
-    })
+fn lanes_with(arm: u8) -> Result<[LaneAddress; 4], Fault> {
+    Ok([
+        LaneAddress::new(12, 0, 1)?,
+        LaneAddress::new(12, 0, 2)?,
+        LaneAddress::new(16_777_215, 15, 15)?,
+        LaneAddress::new(40, arm, 0)?,
+    ])
 }
 
 fn run(rt: HostRuntime, arm: u8) -> io::Result<()> {

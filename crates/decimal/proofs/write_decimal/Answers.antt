@@ -1,13 +1,11 @@
-use Rattle.std.proofs.Common.{arith, rules}
-use Rattle.std.proofs.lemmas.Bool.{lt-leb}
-use Rattle.decimal.proofs.Numerals.{only_numeral}
+use Rattle.std.proofs.Common.{◌≡◌, ◌∙◌, arith}
+use Rattle.std.proofs.lemmas.Bool.Decides.{nat_tests}
+use Rattle.std.proofs.lemmas.Grind.{common_steps}
+use Rattle.decimal.specs.Digits.{digits}
+use Rattle.decimal.proofs.Writing.{same_as_decimal}
 use Rattle.decimal.proofs.write_decimal.Goals as goal
 
-pub returns-then-at-out : goal.returns-then-at-out
-returns-then-at-out c = record { answer = grind (arith, lt-leb); output = grind (arith, lt-leb); numeral = only_numeral c.args.n (omega arith) }
-
-pub returns-then-count-out : goal.returns-then-count-out
-returns-then-count-out c = record { answer = search rules; output = search rules; numeral = only_numeral c.args.n (omega arith) }
-
-pub returns : goal.returns
-returns c = record { answer = search rules; output = search rules; numeral = only_numeral c.args.n (omega arith) }
+pub returns-clause-output : goal.returns-clause-output
+returns-clause-output c =
+    let wrote : c.copy_from_slice.new.self ≡ digits c.args.n = c.copy_from_slice.ensures.after ∙ (c.as_bytes-digits.ensures.value ∙ (c.format.ensures.text ∙ same_as_decimal c.args.n (omega arith))) in
+    grind (arith, common_steps, nat_tests)

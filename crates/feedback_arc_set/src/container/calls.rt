@@ -1,6 +1,6 @@
 ghost use Rattle.std.specs.Prelude.{◌≡◌, ◌<◌, ◌≤◌, [], length, replicate, MatchOption, slice_index_or, slice_set};
 ghost use Rattle.fas_layout.specs.Columns.{PlaceWritten};
-ghost use Rattle.feedback_arc_set.specs.Containers.{nodes_of, keys_of, met_of, slots_of, Met, SameNames, Unlisted, unlisted_of, value_or_blank, key_or_blank, columns};
+ghost use Rattle.feedback_arc_set.specs.Containers.{nodes_of, keys_of, met_of, slots_of, Met, SameNames, Unlisted, unlisted_of, columns};
 ghost use Rattle.keyed_table.specs.Chains.{blank_slot, room_of};
 ghost use Rattle.keyed_table.specs.Tables.{listing, places};
 ghost use Rattle.network.specs.Network.{meet};
@@ -8,42 +8,27 @@ ghost use Rattle.feedback_arc_set.specs.Nodes.{blank_node, blank_key};
 
 use super::FasNodeContainer;
 use crate::fas_node::FasNode;
-use keyed_table::Item;
 use keys::{FasNodeIndex, NodeIndex};
 use linked_list::container::Container;
-use linked_list::position::Position;
-
-fn value_or_blank(item: Option<Item<NodeIndex, FasNode>>) -> FasNode
-    ensures { result ≡ value_or_blank item }
-{
-    match item {
-        Some(item) => item.value,
-        None => FasNode::blank(),
-    }
-}
-
-fn key_or_blank(item: Option<Item<NodeIndex, FasNode>>) -> NodeIndex
-    ensures { result ≡ key_or_blank item }
-{
-    match item {
-        Some(item) => item.key,
-        None => NodeIndex::new(0),
-    }
-}
+use linked_list::position::LinkedListPosition;
 
 impl<'w> FasNodeContainer<'w> {
     // The entry; a blank one past the last.
     pub(crate) fn node(&self, ix: FasNodeIndex) -> FasNode
         ensures { result ≡ slice_index_or (nodes_of self.now) ix.value blank_node }
     {
-        value_or_blank(self.table.at(ix.get()))
+        self.table
+            .at(ix.get())
+            .map_or(FasNode::blank(), |item| item.value)
     }
 
     // The node that the entry is for.
     pub(crate) fn key(&self, ix: FasNodeIndex) -> NodeIndex
         ensures { result ≡ slice_index_or (keys_of self.now) ix.value blank_key }
     {
-        key_or_blank(self.table.at(ix.get()))
+        self.table
+            .at(ix.get())
+            .map_or(NodeIndex::new(0), |item| item.key)
     }
 
     // Writes the entry; past the last nothing is written.
@@ -107,11 +92,11 @@ impl<'w> Container for FasNodeContainer<'w> {
         i < self.table.len()
     }
 
-    fn position(&self, i: u32) -> Position {
+    fn position(&self, i: u32) -> Option<LinkedListPosition> {
         self.node(FasNodeIndex::new(i)).position
     }
 
-    fn set_position(&mut self, i: u32, position: Position) {
+    fn set_position(&mut self, i: u32, position: Option<LinkedListPosition>) {
         let ix = FasNodeIndex::new(i);
         let mut node = self.node(ix);
         node.position = position;

@@ -6,6 +6,7 @@ ghost use Rattle.keyed_table.specs.Chains.{blank_slot};
 ghost use Rattle.network.specs.Sources.{links};
 
 use super::Ordering;
+use crate::container::FasNodeContainer;
 use crate::fas_node::FasNode;
 use crate::places::{ClassPlace, NeighbourPlace};
 use crate::tables::WorkTables;
@@ -38,11 +39,13 @@ impl<'w> Ordering<'w> {
         ensures classes { class_places result.tables ≡ replicate (length classes.old) blank_class }
         ensures order { order_places result.tables ≡ order.old }
     {
-        blank_neighbours(neighbours);
-        blank_classes(classes);
+        neighbours.fill(NeighbourPlace::blank());
+        classes.fill(ClassPlace::blank());
         Ordering {
             tables: WorkTables {
-                entries: KeyedTable::new(entries),
+                nodes: FasNodeContainer {
+                    table: KeyedTable::new(entries),
+                },
                 neighbours,
                 classes,
                 order,
@@ -67,31 +70,8 @@ impl<'w> Ordering<'w> {
         if !self.tables.fit(arcs) {
             return Err(Fault::WorkTablesShort);
         }
-        match self.tables.order_source(source, arcs) {
-            Some(touched) => {
-                self.touched = touched;
-                Ok(touched)
-            }
-            None => {
-                self.touched = 0;
-                Err(Fault::WorkTablesShort)
-            }
-        }
-    }
-}
-
-fn blank_neighbours(places: &mut [NeighbourPlace])
-    ensures { places.new ≡ replicate (length places.old) blank_neighbour }
-{
-    for place in places.iter_mut() {
-        *place = NeighbourPlace::blank();
-    }
-}
-
-fn blank_classes(places: &mut [ClassPlace])
-    ensures { places.new ≡ replicate (length places.old) blank_class }
-{
-    for place in places.iter_mut() {
-        *place = ClassPlace::blank();
+        let touched = self.tables.order_source(source, arcs);
+        self.touched = touched.unwrap_or(0);
+        touched.ok_or(Fault::WorkTablesShort)
     }
 }

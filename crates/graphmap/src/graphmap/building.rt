@@ -32,9 +32,9 @@ impl<'a, N: NodeKey, E: Copy> GraphMap<'a, N, E> {
         if !places.fit() {
             return Err(Fault::TablesUnfit);
         }
-        let nodes = std::mem::replace(&mut places.nodes, &mut []);
-        let arcs = std::mem::replace(&mut places.arcs, &mut []);
-        let links = std::mem::replace(&mut places.links, &mut []);
+        let nodes = std::mem::take(&mut places.nodes);
+        let arcs = std::mem::take(&mut places.arcs);
+        let links = std::mem::take(&mut places.links);
         self.tables = Tables::new(nodes, arcs, links);
         Ok(())
     }

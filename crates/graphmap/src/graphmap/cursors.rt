@@ -1,12 +1,12 @@
-ghost use Rattle.std.specs.Prelude.{◌≡◌, ◌+◌, is_some, if◌then◌else◌};
-ghost use Rattle.graphmap.specs.Maps.{map_model};
-ghost use Rattle.map_model.specs.Shown.{nodes_shown, all_edges_shown};
-ghost use Rattle.std.specs.List.{slice_get};
+ghost use Rattle.std.specs.Prelude.{◌≡◌};
+ghost use Rattle.graphmap.specs.Cursors.{nodes_left, all_edges_left, NextNode, NextOfAllEdges};
+ghost use Rattle.std.specs.Iterator.{item_count};
 
 use super::GraphMap;
 use super::open::OpenMap;
 use keys::{Key, NodeKey};
 
+// Two types, as in petgraph; one over both would need a trait with the list, and an implementation of it for each.
 /// Shows the nodes of a map in the sequence of its table.
 #[derive(Clone, Copy)]
 pub struct Nodes<'m, 'a, N, E> {
@@ -22,7 +22,7 @@ pub struct AllEdges<'m, 'a, N, E> {
 }
 
 impl<'m, 'a, N: NodeKey, E: Copy> OpenMap<'m, 'a, N, E> {
-    /// Return a cursor over the nodes of the graph.
+    /// Return an iterator over the nodes of the graph.
     pub fn nodes(&self) -> Nodes<'m, 'a, N, E>
         ensures { (result.map.now ≡ self.now.map.now) × (result.position ≡ 0) }
     {
@@ -32,7 +32,7 @@ impl<'m, 'a, N: NodeKey, E: Copy> OpenMap<'m, 'a, N, E> {
         }
     }
 
-    /// Return a cursor over all edges of the graph with their weights.
+    /// Return an iterator over all edges of the graph with their weights.
     pub fn all_edges(&self) -> AllEdges<'m, 'a, N, E>
         ensures { (result.map.now ≡ self.now.map.now) × (result.position ≡ 0) }
     {
@@ -43,32 +43,32 @@ impl<'m, 'a, N: NodeKey, E: Copy> OpenMap<'m, 'a, N, E> {
     }
 }
 
-impl<'m, 'a, N: NodeKey, E: Copy> Nodes<'m, 'a, N, E> {
+impl<'m, 'a, N: NodeKey, E: Copy> Iterator for Nodes<'m, 'a, N, E> {
+    type Item = N;
+
+    ghost next_gives = { λ s r t. NextNode s r t };
+
+    ghost remaining = { item_count (λ nodes. nodes_left nodes) };
+
     /// The next node; none at the end.
-    pub fn next(&mut self) -> Option<N>
-        ensures answer { result ≡ slice_get (nodes_shown (map_model self.old.map.now)) self.old.position }
-        ensures moved { self.new.position ≡ (if is_some result then self.old.position + 1 else self.old.position) }
-        ensures same { self.new.map.now ≡ self.old.map.now }
-    {
-        let shown = self.map.tables.node_shown(self.position);
-        if shown.is_some() {
-            self.position += 1;
-        }
-        shown
+    fn next(&mut self) -> Option<N> {
+        let node = self.map.tables.node_shown(self.position)?;
+        self.position += 1;
+        Some(node)
     }
 }
 
-impl<'m, 'a, N: NodeKey, E: Copy> AllEdges<'m, 'a, N, E> {
+impl<'m, 'a, N: NodeKey, E: Copy> Iterator for AllEdges<'m, 'a, N, E> {
+    type Item = (N, N, E);
+
+    ghost next_gives = { λ s r t. NextOfAllEdges s r t };
+
+    ghost remaining = { item_count (λ edges. all_edges_left edges) };
+
     /// The next edge, its two ends and its weight; none at the end.
-    pub fn next(&mut self) -> Option<(N, N, E)>
-        ensures answer { result ≡ slice_get (all_edges_shown (map_model self.old.map.now)) self.old.position }
-        ensures moved { self.new.position ≡ (if is_some result then self.old.position + 1 else self.old.position) }
-        ensures same { self.new.map.now ≡ self.old.map.now }
-    {
-        let shown = self.map.tables.edge_shown(self.position);
-        if shown.is_some() {
-            self.position += 1;
-        }
-        shown
+    fn next(&mut self) -> Option<(N, N, E)> {
+        let edge = self.map.tables.edge_shown(self.position)?;
+        self.position += 1;
+        Some(edge)
     }
 }

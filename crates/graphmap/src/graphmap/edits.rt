@@ -2,10 +2,11 @@ ghost use Rattle.std.specs.Prelude.{◌≡◌};
 ghost use Rattle.graphmap.specs.Maps.{map_model};
 ghost use Rattle.map_model.specs.Model.{node_added, edge_added, node_removed, edge_removed};
 
-use super::GraphMap;
+use super::{GraphMap, between};
 use crate::tables::Tables;
 use fault::Fault;
-use keys::{Key, NodeKey};
+use keys::{Ends, Key, NodeKey};
+use map_layout::IndexedKey;
 
 impl<'a, N: NodeKey, E: Copy> GraphMap<'a, N, E> {
     /// Add node `n` to the graph. Answers the key given, or fault 2 where a new node finds no place.
@@ -13,7 +14,7 @@ impl<'a, N: NodeKey, E: Copy> GraphMap<'a, N, E> {
         ensures answer { result ≡ (node_added N.NodeKey.index (map_model self.old) n).0 }
         ensures shown { map_model self.new ≡ (node_added N.NodeKey.index (map_model self.old) n).1 }
     {
-        self.tables.add_node(n, n.node_index())
+        self.tables.add_node(IndexedKey::new(n))
     }
 
     /// Add an edge connecting `a` and `b` to the graph, with associated data `weight`.
@@ -25,8 +26,11 @@ impl<'a, N: NodeKey, E: Copy> GraphMap<'a, N, E> {
         ensures answer { result ≡ (edge_added N.NodeKey.index (map_model self.old) a b weight).0 }
         ensures shown { map_model self.new ≡ (edge_added N.NodeKey.index (map_model self.old) a b weight).1 }
     {
-        self.tables
-            .add_edge(a, a.node_index(), b, b.node_index(), weight)
+        let ends = Ends {
+            source: IndexedKey::new(a),
+            target: IndexedKey::new(b),
+        };
+        self.tables.add_edge(ends, weight)
     }
 
     /// Remove edge from `a` to `b` from the graph and return the edge weight, or `None` if the edge didn't exist.
@@ -34,7 +38,7 @@ impl<'a, N: NodeKey, E: Copy> GraphMap<'a, N, E> {
         ensures answer { result ≡ (edge_removed N.NodeKey.index (map_model self.old) a b).0 }
         ensures shown { map_model self.new ≡ (edge_removed N.NodeKey.index (map_model self.old) a b).1 }
     {
-        self.tables.remove_edge(a.node_index(), b.node_index())
+        self.tables.remove_edge(between(a, b))
     }
 
     /// Remove node `n` from the graph, with its edges. Return `true` if it did exist.

@@ -2,7 +2,7 @@ ghost use Rattle.std.specs.Prelude.{◌≡◌};
 ghost use Rattle.graphmap.specs.Maps.{map_model};
 ghost use Rattle.map_model.specs.Shown.{node_count, edge_count, contains_edge};
 
-use super::GraphMap;
+use super::{GraphMap, between};
 use keys::{Key, NodeKey};
 
 /// A map opened for reading. While it is in use the map cannot be edited.
@@ -39,8 +39,6 @@ impl<'m, 'a, N: NodeKey, E: Copy> OpenMap<'m, 'a, N, E> {
     pub fn contains_edge(&self, a: N, b: N) -> bool
         ensures { result ≡ contains_edge N.NodeKey.index (map_model self.now.map.now) a b }
     {
-        self.map
-            .tables
-            .contains_edge(a.node_index(), b.node_index())
+        self.map.tables.contains_edge(between(a, b))
     }
 }

@@ -2,9 +2,10 @@ ghost use Rattle.std.specs.Prelude.{◌≡◌};
 ghost use Rattle.graphmap.specs.Maps.{map_model};
 ghost use Rattle.map_model.specs.Shown.{node_count, edge_count, contains_edge};
 
-use super::GraphMap;
+use super::{GraphMap, between};
 use keys::{Key, NodeKey};
 
+// The questions of an open map, asked through `&mut`; both ask the tables.
 impl<'a, N: NodeKey, E: Copy> GraphMap<'a, N, E> {
     /// Return the number of nodes in the graph. Nothing changes.
     pub fn node_count(&mut self) -> u32
@@ -27,6 +28,6 @@ impl<'a, N: NodeKey, E: Copy> GraphMap<'a, N, E> {
         ensures answer { result ≡ contains_edge N.NodeKey.index (map_model self.old) a b }
         ensures same { self.new ≡ self.old }
     {
-        self.tables.contains_edge(a.node_index(), b.node_index())
+        self.tables.contains_edge(between(a, b))
     }
 }

@@ -14,18 +14,16 @@ impl<'m, 'a, N: NodeKey, E: Copy> ArcSource for OpenMap<'m, 'a, N, E> {
 
     ghost arcs = { λ o. arcs_shown (map_model o.map.now) };
 
+    #[tactic(auto, using(crate::proofs::Reading::many_arcs_shown))]
     fn arc_count(&self) -> u32 {
         self.edge_count()
     }
 
     fn arc_at(&self, position: u32) -> Option<Arc<N, E>> {
-        match self.map.tables.edge_shown(position) {
-            Some((source, target, weight)) => Some(Arc {
-                source,
-                target,
-                weight,
-            }),
-            None => None,
-        }
+        self.map.tables.edge_shown(position).map(|(source, target, weight)| Arc {
+            source,
+            target,
+            weight,
+        })
     }
 }

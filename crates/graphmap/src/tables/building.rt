@@ -1,5 +1,5 @@
 ghost use Rattle.std.specs.Prelude.{◌≡◌, length};
-ghost use Rattle.graphmap.specs.States.{state, emptied, Whole};
+ghost use Rattle.graphmap.specs.States.{state, emptied};
 ghost use Rattle.keyed_table.specs.Chains.{room_of};
 ghost use Rattle.keyed_table.specs.Tables.{room};
 
@@ -17,7 +17,6 @@ impl<'a, N: Copy, E: Copy> Tables<'a, N, E> {
         arcs: &'a mut [ArcPlace<N, E>],
         links: &'a mut [LinkPlace<N>],
     ) -> Tables<'a, N, E>
-        ensures whole { Whole result }
         ensures state { state result ≡ emptied N E (room_of (length nodes.old)) (room_of (length arcs.old)) (length links.old) }
     {
         let mut links = Slots { slots: links };
@@ -33,7 +32,6 @@ impl<'a, N: Copy, E: Copy> Tables<'a, N, E> {
 
     /// Takes every node and every arc out.
     pub(crate) fn clear(&mut self)
-        ensures whole { Whole self.new }
         ensures state { state self.new ≡ emptied N E (room self.old.nodes) (room self.old.arcs) (length self.old.links.slots.now) }
     {
         self.nodes.clear();

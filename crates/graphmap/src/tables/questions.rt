@@ -1,5 +1,5 @@
 ghost use Rattle.std.specs.Prelude.{◌≡◌};
-ghost use Rattle.graphmap.specs.States.{state, Whole};
+ghost use Rattle.graphmap.specs.States.{state};
 ghost use Rattle.map_layout.specs.Layout.{model};
 ghost use Rattle.map_model.specs.Lists.{has};
 ghost use Rattle.map_model.specs.Model.{between};
@@ -10,23 +10,25 @@ use keys::{Ends, NodeIndex};
 
 impl<'a, N: Copy, E: Copy> Tables<'a, N, E> {
     /// How many nodes there are.
+    #[tactic(auto, using(map_layout::proofs::Adding::many_nodes))]
     pub(crate) fn node_count(&self) -> u32
-        ensures { Whole self.now → result ≡ node_count (model (state self.now)) }
+        ensures { result ≡ node_count (model (state self.now)) }
     {
         self.nodes.len()
     }
 
     /// How many arcs there are.
+    #[tactic(auto, using(map_layout::proofs::Adding::many_arcs))]
     pub(crate) fn edge_count(&self) -> u32
-        ensures { Whole self.now → result ≡ edge_count (model (state self.now)) }
+        ensures { result ≡ edge_count (model (state self.now)) }
     {
         self.arcs.len()
     }
 
     /// Whether the arc between two nodes is there.
-    pub(crate) fn contains_edge(&self, source: NodeIndex, target: NodeIndex) -> bool
-        ensures { Whole self.now → result ≡ has (between source.value target.value) (model (state self.now)).arcs }
+    pub(crate) fn contains_edge(&self, ends: Ends<NodeIndex>) -> bool
+        ensures { result ≡ has (between ends.source.value ends.target.value) (model (state self.now)).arcs }
     {
-        self.arcs.contains(&Ends { source, target })
+        self.arcs.contains(&ends)
     }
 }

@@ -1,9 +1,8 @@
 ghost use Rattle.std.specs.Prelude.{◌≡◌, ◌+◌, ◌^◌, ◌<◌, if◌then◌else◌};
-ghost use Rattle.graphmap.specs.States.{state, Whole};
+ghost use Rattle.graphmap.specs.States.{state};
 ghost use Rattle.graphmap.specs.Places.{neighbors, positions_of};
 ghost use Rattle.linked_list.specs.Chains.{can_swap, after_swap, start_after_swap};
-ghost use Rattle.linked_list.specs.Places.{names};
-ghost use Rattle.map_layout.specs.Steps.{lone, node_at, linked_at, swapped_out_of, dropped_out_of, new_place, place_taken, place_given, else_some, last_swapped};
+ghost use Rattle.map_layout.specs.Steps.{lone, node_at, linked_at, swapped_out_of, dropped_out_of, new_place, place_taken, place_given, last_swapped};
 ghost use Rattle.std.specs.Option.{unwrap_or};
 
 use super::Tables;
@@ -13,39 +12,16 @@ use keys::NodeIndex;
 use linked_list::list::LinkedList;
 use linked_list::slots::Slots;
 use linked_list::walk;
-use map_layout::{Neighbor, NodeRecord};
-
-// The place that is named, else this one.
-fn or_place(named: Option<u32>, place: u32) -> Option<u32>
-    ensures { result ≡ else_some named place }
-{
-    match named {
-        None => Some(place),
-        Some(first) => Some(first),
-    }
-}
-
-// Whether it is this place that is named.
-fn is_named(named: Option<u32>, place: u32) -> bool
-    ensures { result ≡ names named place }
-{
-    match named {
-        None => false,
-        Some(other) => other == place,
-    }
-}
+use map_layout::{IndexedKey, NodeRecord};
 
 // What comes last in a list once its first entry has taken the place of another.
 fn last_swapped(newest: Option<u32>, oldest: Option<u32>, place: u32) -> Option<u32>
     ensures { result ≡ last_swapped newest oldest place }
 {
-    if !is_named(oldest, place) {
-        return oldest;
-    }
-    if is_named(newest, place) {
-        None
+    if oldest == Some(place) {
+        newest.filter(|first| *first != place)
     } else {
-        newest
+        oldest
     }
 }
 
@@ -61,40 +37,34 @@ fn swap_link<N: Copy>(list: &mut LinkedList, links: &mut Slots<'_, LinkPlace<N>>
 
 impl<'a, N: Copy, E: Copy> Tables<'a, N, E> {
     // The record of a node; one without links where the node is not there.
-    fn node_or_new(&self, key: N, index: NodeIndex) -> NodeRecord<N>
-        ensures { Whole self.now → result ≡ unwrap_or (node_at index.value (state self.now)) (lone key) }
+    fn node_or_new(&self, node: IndexedKey<N>) -> NodeRecord<N>
+        ensures { result ≡ unwrap_or (node_at node.index.value (state self.now)) (lone node.key) }
     {
-        match self.nodes.get(&index) {
-            Some(node) => node,
-            None => NodeRecord {
-                key,
-                newest: None,
-                oldest: None,
-            },
-        }
+        self.nodes
+            .get(&node.index)
+            .unwrap_or(NodeRecord::new(node.key))
     }
 
     /// Gives a node, which is put last where it is new, a link at a place that is in no list.
-    pub(crate) fn link(&mut self, key: N, index: NodeIndex, place: u32, neighbor: Neighbor<N>)
-        ensures whole { Whole self.old → Whole self.new }
-        ensures state { Whole self.old → state self.new ≡ linked_at key index place neighbor (state self.old) }
+    pub(crate) fn link(&mut self, node: IndexedKey<N>, place: u32, neighbor: IndexedKey<N>)
+        ensures state { state self.new ≡ linked_at node.key node.index place neighbor (state self.old) }
     {
-        let node = self.node_or_new(key, index);
+        let old = self.node_or_new(node);
         set_neighbor(&mut self.links, place, neighbor);
-        let mut list = LinkedList { start: node.newest };
+        let mut list = LinkedList { start: old.newest };
         let _pushed = list.push_front(&mut self.links, place);
         let record = NodeRecord {
-            key: node.key,
             newest: list.start,
-            oldest: or_place(node.oldest, place),
+            oldest: old.oldest.or(Some(place)),
+            ..old
         };
-        let _ = self.nodes.insert(index, record);
+        let _ = self.nodes.insert(node.index, record);
     }
 
+    // This and `drop_link` share four lines, fewer than a closure with its contract would take.
     /// Takes the link at a place out of a node's list. The newest link of the node comes in its place.
     pub(crate) fn swap_out(&mut self, index: NodeIndex, place: u32)
-        ensures whole { Whole self.old → Whole self.new }
-        ensures state { Whole self.old → state self.new ≡ swapped_out_of index place (state self.old) }
+        ensures state { state self.new ≡ swapped_out_of index place (state self.old) }
     {
         let Some(node) = self.nodes.get(&index) else {
             return;
@@ -102,17 +72,16 @@ impl<'a, N: Copy, E: Copy> Tables<'a, N, E> {
         let mut list = LinkedList { start: node.newest };
         swap_link(&mut list, &mut self.links, place);
         let record = NodeRecord {
-            key: node.key,
             newest: list.start,
             oldest: last_swapped(node.newest, node.oldest, place),
+            ..node
         };
         let _ = self.nodes.insert(index, record);
     }
 
     /// Takes the oldest link of a node, at this place, out of its list.
     pub(crate) fn drop_link(&mut self, index: NodeIndex, place: u32)
-        ensures whole { Whole self.old → Whole self.new }
-        ensures state { Whole self.old → state self.new ≡ dropped_out_of index place (state self.old) }
+        ensures state { state self.new ≡ dropped_out_of index place (state self.old) }
     {
         let Some(node) = self.nodes.get(&index) else {
             return;
@@ -121,9 +90,9 @@ impl<'a, N: Copy, E: Copy> Tables<'a, N, E> {
         let mut list = LinkedList { start: node.newest };
         let _removed = list.remove(&mut self.links, place);
         let record = NodeRecord {
-            key: node.key,
             newest: list.start,
             oldest,
+            ..node
         };
         let _ = self.nodes.insert(index, record);
     }
@@ -132,30 +101,20 @@ impl<'a, N: Copy, E: Copy> Tables<'a, N, E> {
     pub(crate) fn take_place(&mut self) -> u32
         requires { self.old.fresh + 2 < 2 ^ 32 }
         ensures place { result ≡ new_place (state self.old) }
-        ensures whole { Whole self.old → Whole self.new }
         ensures state { state self.new ≡ place_taken (state self.old) }
     {
-        let mut unused = self.unused;
-        match unused.pop(&mut self.links) {
-            Some(place) => {
-                self.unused = unused;
-                place
-            }
-            None => {
-                let place = self.fresh;
-                self.fresh = place + 2;
-                place
-            }
+        if let Some(place) = self.unused.pop(&mut self.links) {
+            return place;
         }
+        let place = self.fresh;
+        self.fresh = place + 2;
+        place
     }
 
     /// Keeps the place of an arc that goes for a later one.
     pub(crate) fn give_place(&mut self, place: u32)
-        ensures whole { Whole self.old → Whole self.new }
         ensures state { state self.new ≡ place_given place (state self.old) }
     {
-        let mut unused = self.unused;
-        let _pushed = unused.push_front(&mut self.links, place);
-        self.unused = unused;
+        let _pushed = self.unused.push_front(&mut self.links, place);
     }
 }

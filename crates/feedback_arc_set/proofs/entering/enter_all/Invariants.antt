@@ -7,7 +7,7 @@ use Rattle.feedback_arc_set.proofs.entering.enter_all.Given as goal
 
 abbrev pub invariant-loop-i : goal.invariant-loop-i
 invariant-loop-i g l =
-    Entered (links g.S.Node.NodeKey.index (g.S.ArcSource.arcs l.source)) l.i (met_of l.nodes) (neighbours_of l.neighbours).nodes
+    Entered (links g.S.Node.NodeKey.index (g.S.ArcSource.arcs l.source)) (length l.yielded) (met_of l.nodes) (neighbours_of l.neighbours).nodes
     × (length (met_of l.nodes) ≤ l.most) × AllBlank l.nodes × OwnNames l.nodes
     × (slots_of l.nodes ≡ slots_of l.initial.nodes)
-    × (BlankFrom l.initial.neighbours (2 * l.arcs) → BlankFrom l.neighbours (2 * l.arcs))
+    × (BlankFrom l.initial.neighbours (2 * length (g.S.ArcSource.arcs l.source)) → BlankFrom l.neighbours (2 * length (g.S.ArcSource.arcs l.source)))

@@ -23,15 +23,16 @@ loop-i-preserved c =
     let n = names_long c.loop-i.nodes c.args.nodes.now inv.2 in
     let k = length-map (nodes_of c.loop-i.nodes) (λ v. v.position) in
     let s = inv.3.size in
+    let e = c.len-i-end.ensures in
     let here : class_at c.args.buckets.now.arcs (columns c.args.nodes.now) c.new-ix.result.value ≡ c.suitable_bucket-class.result =
     sym (c.suitable_bucket-class.ensures ∙ ap (λ a. class_at a (columns c.loop-i.nodes) c.new-ix.result.value) inv.3.arcs
     ∙ sym (same_classes m t0 (columns c.loop-i.nodes) inv.1.out_degrees inv.1.in_degrees c.new-ix.result.value)) in (
-      λ free none wide long.
+      λ free none wide.
           let w = wide c.loop-i.i (omega arith) in
           let q : class_at c.args.buckets.now.arcs (columns c.args.nodes.now) c.new-ix.result.value ≡ class_at c.args.buckets.now.arcs (columns c.args.nodes.now) c.loop-i.i = ap (class_at c.args.buckets.now.arcs (columns c.args.nodes.now)) x in
           rw add-one (subst (λ v. Filed (columns c.push_front.new.nodes).positions (class_at c.args.buckets.now.arcs (columns c.args.nodes.now)) (starts c.push_front.new.self) (v ∷ down c.loop-i.i)) x
           (p.filed (class_at c.args.buckets.now.arcs (columns c.args.nodes.now)) (down c.loop-i.i) here
-          (has_down c.loop-i.i c.new-ix.result.value ∙ le-ltb c.new-ix.result.value c.loop-i.i (omega arith)) (omega arith) (omega arith) (inv.0 free none wide long))),
+          (has_down c.loop-i.i c.new-ix.result.value ∙ le-ltb c.new-ix.result.value c.loop-i.i (omega arith)) (omega arith) (omega arith) (inv.0 free none wide))),
       same_but (columns c.push_front.new.nodes) (columns c.loop-i.nodes) t0 (unlisted_same c.push_front.new.nodes c.loop-i.nodes p.kept) inv.1,
       same_names c.push_front.new.nodes c.loop-i.nodes c.args.nodes.now (unlisted_names c.push_front.new.nodes c.loop-i.nodes p.kept) inv.2,
       same_sizes c.push_front.new.self c.loop-i.buckets c.args.buckets.now p.sizes inv.3,

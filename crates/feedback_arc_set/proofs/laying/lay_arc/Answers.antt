@@ -4,11 +4,11 @@ use Rattle.fas_layout.specs.Laying.{Laid, link_at}
 use Rattle.fas_layout.proofs.Laid.{laid_arc}
 use Rattle.feedback_arc_set.specs.Containers.{columns, nodes_of}
 use Rattle.feedback_arc_set.specs.Nodes.{neighbours_of}
-use Rattle.feedback_arc_set.proofs.Reading.{columns_sized, same_names, still_blank}
+use Rattle.feedback_arc_set.proofs.Reading.{columns_sized}
 use Rattle.feedback_arc_set.proofs.laying.lay_arc.Goals as goal
 
-pub returns : goal.returns
-returns c =
+pub returns-clause-laid : goal.returns-clause-laid
+returns-clause-laid c =
     let P = neighbours_of c.args.neighbours.now in
     let P1 = neighbours_of c.lead.new.neighbours in
     let P2 = neighbours_of c.lead-2.new.neighbours in
@@ -25,12 +25,6 @@ returns c =
     let rb : c.node_at-target.result.value < length (nodes_of c.args.nodes.now) = let e = c.node_at-target.ensures in let r = c.requires.ends.1 in omega arith in
     let rp : 2 * c.args.i + 1 < length (neighbours_of c.args.neighbours.now).nodes = let k = length-map c.args.neighbours.now (λ q. q.node.value) in let r = c.requires.room.0 in omega arith in
     let even = length-map c.args.neighbours.now (λ q. q.next) ∙ sym (length-map c.args.neighbours.now (λ q. q.node.value)) in
-    record {
-      laid = λ arcs l.
-          subst (λ v. Laid (neighbours_of c.lead-2.new.neighbours) (columns c.lead-2.new.nodes) (length (nodes_of c.args.nodes.now)) (2 * c.args.i) (v ∷ arcs)) ends
-          (laid_arc P P1 P2 t t1 t2 n (2 * c.args.i) a b (columns_sized (nodes_of c.args.nodes.now)) even ra rb rp (sym c.node_at-target.ensures) (sym c.node_at-source.ensures) l1.leads l1.led l2.leads l2.led arcs l);
-      ends = l2.leads.nodes ∙ l1.leads.nodes;
-      blank = λ v b h. still_blank c.lead.new.neighbours c.lead-2.new.neighbours (2 * c.args.i + 1) v l2.others (omega arith) (still_blank c.args.neighbours.now c.lead.new.neighbours (2 * c.args.i) v l1.others (omega arith) h);
-      positions = l2.led.positions ∙ l1.led.positions;
-      names = same_names c.lead-2.new.nodes c.lead.new.nodes c.args.nodes.now l2.names l1.names;
-    }
+    λ arcs l.
+    subst (λ v. Laid (neighbours_of c.lead-2.new.neighbours) (columns c.lead-2.new.nodes) (length (nodes_of c.args.nodes.now)) (2 * c.args.i) (v ∷ arcs)) ends
+    (laid_arc P P1 P2 t t1 t2 n (2 * c.args.i) a b (columns_sized (nodes_of c.args.nodes.now)) even ra rb rp (sym c.node_at-target.ensures) (sym c.node_at-source.ensures) l1.leads l1.led l2.leads l2.led arcs l)

@@ -19,13 +19,8 @@ loop-sink-preserved c =
       record { classes = f.first.lender ∙ inv.3.classes; order = p.lender ∙ inv.3.order },
     )
 
-pub returns : goal.returns
-returns c =
+pub returns-clause-stage : goal.returns-clause-stage
+returns-clause-stage c =
     let inv = c.loop-sink.invariant in
     let f = c.in_default.ensures in
-    record {
-      stage = λ arcs goal s. sinks_end arcs (neighbours_of c.args.neighbours.now) (key_in c.args.nodes.now) goal c.loop-sink.nodes c.take_first.new.nodes c.loop-sink.buckets c.take_first.new.self c.loop-sink.halves 0 c.room.result f.first c.room.ensures refl (inv.0 arcs goal s);
-      names = same_names c.take_first.new.nodes c.loop-sink.nodes c.args.nodes.now f.names inv.1;
-      lenders = record { classes = f.first.lender ∙ inv.3.classes; order = inv.3.order };
-      narrower = inv.2;
-    }
+    λ arcs goal s. sinks_end arcs (neighbours_of c.args.neighbours.now) (key_in c.args.nodes.now) goal c.loop-sink.nodes c.take_first.new.nodes c.loop-sink.buckets c.take_first.new.self c.loop-sink.halves 0 c.room.result f.first c.room.ensures refl (inv.0 arcs goal s)

@@ -20,13 +20,8 @@ loop-source-preserved c =
       record { classes = f.first.lender ∙ inv.4.classes; order = p.lender ∙ inv.4.order },
     )
 
-pub returns : goal.returns
-returns c =
+pub returns-clause-stage : goal.returns-clause-stage
+returns-clause-stage c =
     let inv = c.loop-source.invariant in
     let f = c.in_default.ensures in
-    record {
-      stage = λ arcs goal s. sources_end arcs (neighbours_of c.args.neighbours.now) (key_in c.args.nodes.now) goal c.loop-source.nodes c.take_first.new.nodes c.loop-source.buckets c.take_first.new.self c.loop-source.halves c.source_class-class.result c.room.result f.first c.room.ensures inv.3 (inv.0 arcs goal s);
-      names = same_names c.take_first.new.nodes c.loop-source.nodes c.args.nodes.now f.names inv.1;
-      lenders = record { classes = f.first.lender ∙ inv.4.classes; order = inv.4.order };
-      narrower = inv.2;
-    }
+    λ arcs goal s. sources_end arcs (neighbours_of c.args.neighbours.now) (key_in c.args.nodes.now) goal c.loop-source.nodes c.take_first.new.nodes c.loop-source.buckets c.take_first.new.self c.loop-source.halves c.source_class-class.result c.room.result f.first c.room.ensures inv.3 (inv.0 arcs goal s)

@@ -1,28 +1,19 @@
-use Rattle.std.proofs.Common.{◌-◌, get_or, sym, ap, ◌∙◌, arith}
-use Rattle.std.proofs.lemmas.List.{length-map}
-use Rattle.keyed_table.specs.Chains.{nexts, bucket}
-use Rattle.keyed_table.proofs.Mending.{seek_none, seek_more, seek_empty, falling_le}
+use Rattle.std.proofs.Common.{get_or, sym, ap, arith}
+use Rattle.keyed_table.specs.Chains.{nexts, height}
+use Rattle.keyed_table.proofs.Mending.{bucket_in, seek_start, seek_more, falling_le}
 use Rattle.keyed_table.proofs.chains.find.Goals as goal
-
-pub returns-then-slots-eq0 : goal.returns-then-slots-eq0
-returns-then-slots-eq0 g c = λ _. seek_empty c.args.slots.now c.args.number c.if-slots-eq0.true
 
 pub loop-at-init : goal.loop-at-init
 loop-at-init g c =
-    let n = length-map c.args.slots.now (λ s. s.item) in
-    (c.head_at-at.type_inv, λ h. seek_none c.args.slots.now c.args.number h (omega arith) _ c.bucket_of.result (c.bucket_of.ensures ∙ ap (λ z. bucket z c.args.number) (sym n)) c.head_at-at.ensures)
+    let s = c.args.slots.now in
+    λ h. seek_start s c.args.number h (height c.head_at-at.result) c.bucket_of.result (bucket_in s c.args.number c.bucket_of.result c.bucket_of.ensures) c.head_at-at.ensures
 
 pub loop-at-smaller : goal.loop-at-smaller
 loop-at-smaller g c =
     let e = c.next_at-at.ensures in
-    let f = falling_le (c.loop-at.at - 1) (get_or (nexts c.args.slots.now) (c.loop-at.at - 1) 0) in
+    let f = falling_le c.in-Some.i (get_or (nexts c.args.slots.now) c.in-Some.i 0) in
+    let a = ap height c.in-Some.is in
     omega arith
 
 pub loop-at-preserved : goal.loop-at-preserved
-loop-at-preserved g c = (c.next_at-at.type_inv, λ h. seek_more c.args.slots.now c.args.number h c.loop-at.at (c.loop-at.at - 1) _ (omega arith) (c.loop-at.invariant.1 h) (sym c.if-holds_number.ensures) c.next_at-at.ensures)
-
-pub returns-then-holds_number : goal.returns-then-holds_number
-returns-then-holds_number g c = λ _. sym c.if-holds_number.ensures
-
-pub returns : goal.returns
-returns g c = λ h j e. (c.loop-at.invariant.1 h).none j (let t = c.loop-at-test.false in omega arith) e
+loop-at-preserved g c = λ h. seek_more c.args.slots.now c.args.number h c.in-Some.i (height c.next_at-at.result) (rw c.in-Some.is at (c.loop-at.invariant h)) (sym c.if-holds_number.ensures) c.next_at-at.ensures

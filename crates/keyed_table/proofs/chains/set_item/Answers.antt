@@ -1,19 +1,12 @@
-use Rattle.std.proofs.Common.{sym, refl, arith}
+use Rattle.std.proofs.Common.{refl}
 use lib.Seq.{map-set, map-set_same}
-use Rattle.std.proofs.lemmas.List.{set_past, length-map}
-use Rattle.keyed_table.specs.Chains.{items}
+use Rattle.keyed_table.specs.Chains.{height}
 use Rattle.keyed_table.proofs.chains.set_item.Goals as goal
 
 pub returns-then-i-slots : goal.returns-then-i-slots
 returns-then-i-slots g c =
     record {
       items = map-set (λ s. s.item) c.args.slots.now c.args.i _;
-      heads = map-set_same (λ s. s.head) c.args.slots.now c.args.i _ _ refl;
-      nexts = map-set_same (λ s. s.next) c.args.slots.now c.args.i _ _ refl;
+      heads = map-set_same (λ s. height s.head) c.args.slots.now c.args.i _ _ refl;
+      nexts = map-set_same (λ s. height s.next) c.args.slots.now c.args.i _ _ refl;
     }
-
-pub returns-else-i-slots : goal.returns-else-i-slots
-returns-else-i-slots g c =
-    let n = length-map c.args.slots.now (λ s. s.item) in
-    let e = sym (set_past (items c.args.slots.now) c.args.i c.args.item (omega arith)) in
-    record { items = e; heads = refl; nexts = refl }

@@ -1,19 +1,21 @@
 use Rattle.std.proofs.Common.{length, refl, ap, ◌∙◌}
 use Rattle.std.proofs.lemmas.Bool.{cond-true}
+use Rattle.std.proofs.lemmas.Result.{err_from_is_err_and}
 use Rattle.graphmap.specs.Capacity.{places_fit}
 use Rattle.graphmap.specs.Maps.{map_model}
 use Rattle.replay.proofs.Running.{fit_true, fit_false, all_promises, ran}
 use Rattle.replay.proofs.run.replay.Goals as goal
 
-pub returns-in-Err : goal.returns-in-Err
-returns-in-Err g c =
-    let w = c.in-Err.ensures in
-    let f = fit_false (places_fit c.args.places.now) c.in-Err.fault w.answer in
-    record { run = (f.0, f.1, (w.refused f.0).0, (w.refused f.0).1, refl, refl); promises = all_promises }
+pub returns-in_err-with_capacity : goal.returns-in_err-with_capacity
+returns-in_err-with_capacity g c =
+    let p = err_from_is_err_and c.from_residual.result c.from_residual.ensures.1 in
+    let w = c.in_err-with_capacity.ensures in
+    let f = fit_false (places_fit c.args.places.now) c.in_err-with_capacity.field-0.0 w.answer in
+    rw (p.1, p.2) (record { run = (f.0, f.1, (w.refused f.0).0, (w.refused f.0).1, refl, refl); promises = all_promises })
 
-pub returns-in-Ok : goal.returns-in-Ok
-returns-in-Ok g c =
-    let w = c.in-Ok.ensures in
+pub returns : goal.returns
+returns g c =
+    let w = c.in_ok-with_capacity.ensures in
     let p = c.args.places.now in
     let f = fit_true (places_fit p) w.answer in
     record {

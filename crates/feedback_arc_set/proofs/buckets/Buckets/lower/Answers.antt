@@ -1,22 +1,14 @@
-use Rattle.std.proofs.Common.{length, set, ap, ◌∙◌}
+use Rattle.std.proofs.Common.{length, set, sym, ap, ◌∙◌}
+use Rattle.linked_list.specs.Places.{is_in, at}
 use Rattle.fas_layout.specs.Columns.{class_at}
-use Rattle.fas_layout.proofs.Lowered.{lost_one, lost_taken}
+use Rattle.fas_layout.proofs.Lowered.{lost_one}
 use Rattle.feedback_arc_set.specs.Containers.{columns, nodes_of}
 use Rattle.feedback_arc_set.specs.Listed.{starts}
-use Rattle.feedback_arc_set.proofs.Reading.{lowered_columns, listed_read, unlisted_same, unlisted_names, unlisted_long, same_names, names_same, same_sizes, sizes_same}
+use Rattle.feedback_arc_set.proofs.Reading.{lowered_columns, unlisted_same, unlisted_long}
 use Rattle.feedback_arc_set.proofs.buckets.Buckets.lower.Goals as goal
 
-pub returns-then-not-is_listed : goal.returns-then-not-is_listed
-returns-then-not-is_listed c = record {
-  lost = lost_taken c.args.direction c.args.self.now.arcs c.args.ix.value (columns c.args.nodes.now) (starts c.args.self.now)
-      (listed_read (nodes_of c.args.nodes.now) c.args.ix.value c.node.result _ c.node.ensures c.if-not-is_listed.ensures);
-  names = names_same c.args.nodes.now;
-  sizes = sizes_same c.args.self.now;
-}
-
-pub returns : goal.returns
-returns c =
-    let m = c.args.self.now.arcs in
+pub returns-clause-lost : goal.returns-clause-lost
+returns-clause-lost c =
     let n0 = c.args.nodes.now in
     let n1 = c.remove.new.nodes in
     let n2 = c.set_node.new.self in
@@ -24,19 +16,15 @@ returns c =
     let s1 = c.remove.ensures.sizes in
     let s2 = c.push_front.ensures.sizes in
     let k = c.remove.ensures.kept in
-    let w = lowered_columns c.args.direction (nodes_of c.remove.new.nodes) (nodes_of c.set_node.new.self) c.args.ix.value c.node-2.result c.node-2.ensures
+    let w = lowered_columns c.args.direction (nodes_of c.remove.new.nodes) (nodes_of c.set_node.new.self) c.args.ix.value c.node.result c.node.ensures
     (c.set_node.ensures.written ∙ ap (set (nodes_of c.remove.new.nodes) c.args.ix.value) c.lowered-node.ensures) in
-    record {
-      lost = lost_one c.args.direction c.args.self.now.arcs c.args.ix.value c.suitable_bucket-class.result c.suitable_bucket-class-2.result
-          (columns n0) (columns n1) (columns n2) (columns n3)
-          (starts c.args.self.now) (starts c.remove.new.self) (starts c.push_front.new.self)
-          c.remove.ensures.filed (unlisted_same n1 n0 k)
-          w.positions w.falls w.other w.links
-          c.push_front.ensures.filed (unlisted_same n3 n2 c.push_front.ensures.kept)
-          c.suitable_bucket-class.ensures
-          (c.suitable_bucket-class-2.ensures ∙ ap (λ a. class_at a (columns c.set_node.new.self) c.args.ix.value) s1.arcs)
-          s1.size (s2.size ∙ s1.size) (ap length w.positions ∙ unlisted_long n1 n0 k)
-          (listed_read (nodes_of c.args.nodes.now) c.args.ix.value c.node.result _ c.node.ensures c.if-not-is_listed.ensures);
-      names = same_names n3 n2 n0 (unlisted_names n3 n2 c.push_front.ensures.kept) (same_names n2 n1 n0 c.set_node.ensures.names (unlisted_names n1 n0 k));
-      sizes = same_sizes c.push_front.new.self c.remove.new.self c.args.self.now s2 s1;
-    }
+    lost_one c.args.direction c.args.self.now.arcs c.args.ix.value c.suitable_bucket-class.result c.suitable_bucket-class-2.result
+    (columns n0) (columns n1) (columns n2) (columns n3)
+    (starts c.args.self.now) (starts c.remove.new.self) (starts c.push_front.new.self)
+    c.remove.ensures.filed (unlisted_same n1 n0 k)
+    w.positions w.falls w.other w.links
+    c.push_front.ensures.filed (unlisted_same n3 n2 c.push_front.ensures.kept)
+    c.suitable_bucket-class.ensures
+    (c.suitable_bucket-class-2.ensures ∙ ap (λ a. class_at a (columns c.set_node.new.self) c.args.ix.value) s1.arcs)
+    s1.size (s2.size ∙ s1.size) (ap length w.positions ∙ unlisted_long n1 n0 k)
+    (sym (c.if-not-is_in_list.ensures.answer ∙ ap (λ i. is_in (at (columns c.args.nodes.now).positions i)) c.get.ensures))

@@ -1,20 +1,11 @@
-use Rattle.std.proofs.Common.{sym, ◌∙◌, subst}
-use Rattle.std.proofs.lemmas.List.{length-map}
+use Rattle.std.proofs.Common.{subst}
 use Rattle.fas_layout.specs.Following.{LostOne}
-use Rattle.fas_layout.proofs.Followed.{walked_none, walked_more, walked_all, places_less}
+use Rattle.fas_layout.proofs.Followed.{walked_more, walked_all}
 use Rattle.feedback_arc_set.specs.Containers.{columns}
 use Rattle.feedback_arc_set.specs.Listed.{starts}
 use Rattle.feedback_arc_set.specs.Nodes.{neighbours_of}
-use Rattle.feedback_arc_set.proofs.Reading.{same_names, names_same, same_sizes, sizes_same}
+use Rattle.feedback_arc_set.proofs.Reading.{same_names, same_sizes}
 use Rattle.feedback_arc_set.proofs.buckets.Buckets.lower_all.Goals as goal
-
-pub loop-at-init : goal.loop-at-init
-loop-at-init c = (walked_none c.args.direction c.args.self.now.arcs (neighbours_of c.args.neighbours.now) (columns c.args.nodes.now) (starts c.args.self.now) c.args.from, names_same c.args.nodes.now, sizes_same c.args.self.now)
-
-pub loop-at-smaller : goal.loop-at-smaller
-loop-at-smaller c =
-    places_less (neighbours_of c.args.neighbours.now) c.loop-at.at c.next_at-at.result c.in-Some.p
-    (length-map c.args.neighbours.now (λ q. q.next) ∙ sym (length-map c.args.neighbours.now (λ q. q.node.value))) c.in-Some.is c.next_at-at.ensures
 
 pub loop-at-preserved : goal.loop-at-preserved
 loop-at-preserved c =
@@ -29,9 +20,5 @@ loop-at-preserved c =
       same_sizes c.lower.new.self c.loop-at.self c.args.self.now e.sizes inv.2,
     )
 
-pub returns : goal.returns
-returns c = record {
-  lost = walked_all c.args.direction c.args.self.now.arcs (neighbours_of c.args.neighbours.now) (columns c.args.nodes.now) (columns c.loop-at.nodes) (starts c.args.self.now) (starts c.loop-at.self) c.args.from c.loop-at.at c.in_default.is c.loop-at.invariant.0;
-  names = c.loop-at.invariant.1;
-  sizes = c.loop-at.invariant.2;
-}
+pub returns-clause-lost : goal.returns-clause-lost
+returns-clause-lost c = walked_all c.args.direction c.args.self.now.arcs (neighbours_of c.args.neighbours.now) (columns c.args.nodes.now) (columns c.loop-at.nodes) (starts c.args.self.now) (starts c.loop-at.self) c.args.from c.loop-at.at c.in_default.is c.loop-at.invariant.0

@@ -1,13 +1,13 @@
-use Rattle.std.proofs.Common.{ap, ◌∙◌}
-use Rattle.keyed_table.specs.Tables.{listing}
+use Rattle.std.proofs.Common.{◌≡◌, MatchOption, get_or, rules, ap, ◌∙◌, subst}
 use Rattle.std.specs.List.{slice_get}
-use Rattle.feedback_arc_set.specs.Containers.{value_or_blank}
-use Rattle.feedback_arc_set.proofs.Reading.{value_read, intact}
+use Rattle.keyed_table.specs.Tables.{listing}
+use Rattle.feedback_arc_set.specs.Containers.{nodes_of}
+use Rattle.feedback_arc_set.proofs.Reading.{read_or}
 use Rattle.feedback_arc_set.proofs.container.FasNodeContainer.node.Goals as goal
 
 pub returns : goal.returns
 returns c =
-    c.value_or_blank.ensures
-    ∙ ap value_or_blank (c.at.ensures (intact c.args.self.now))
-    ∙ ap (λ i. value_or_blank (slice_get (listing c.args.self.now.table) i)) c.get.ensures
-    ∙ value_read (listing c.args.self.now.table) c.args.ix.value
+    let told : MatchOption c.at.result (c.map_or.result ≡ c.blank.result) (λ x. c.map_or.result ≡ x.value) = search rules in
+    read_or (λ x. x.value) c.blank.result (listing c.args.self.now.table) c.args.ix.value c.map_or.result
+    (subst (λ o. MatchOption o (c.map_or.result ≡ c.blank.result) (λ x. c.map_or.result ≡ x.value)) (c.at.ensures ∙ ap (slice_get (listing c.args.self.now.table)) c.get.ensures) told)
+    ∙ ap (get_or (nodes_of c.args.self.now) c.args.ix.value) c.blank.ensures

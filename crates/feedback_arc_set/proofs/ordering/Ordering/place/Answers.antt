@@ -10,4 +10,4 @@ use Rattle.feedback_arc_set.proofs.Standing.{place_found}
 pub returns : goal.returns
 returns c =
     let o = c.args.self.now in
-    c.entry_place.ensures o.intact ∙ ∥∥₁_elim o.placed (Coded-set coded_option _ _) (place_found c.args.node.value (listing o.tables.entries) (order_of o))
+    c.entry_place.ensures ∙ ∥∥₁_elim o.placed (Coded-set coded_option _ _) (place_found c.args.node.value (listing o.tables.nodes.table) (order_of o))

@@ -14,8 +14,6 @@ invariant_of-self g c =
     let call = c.clear.ensures in
     let places = m.tables.links.slots.now in
     let e = ap (λ (z : State g.row.N.Denot g.row.E.Denot). z.arc_places) call.state in record {
-      nodes = call.whole.nodes;
-      arcs = call.whole.arcs;
       few = (let f = m.few in omega arith);
       good = ∥∥₁_map m.good (λ k. subst Good (sym call.state)
           (emptied_good g.row.N.Denot g.row.E.Denot st.node_places st.arc_places (length places) (let r = k.rep.roomy in let l = length-map places (λ p. p.position) in omega arith)));

@@ -7,4 +7,4 @@ use Rattle.graphmap.proofs.graphmap.GraphMap.new.Goals as goal
 pub invariant_of-result : goal.invariant_of-result
 invariant_of-result g c =
     let call = c.new.ensures in
-    let e = ap (λ (z : State g.row.N.Denot g.row.E.Denot). z.arc_places) call.state in record { nodes = call.whole.nodes; arcs = call.whole.arcs; few = omega arith; good = ∣ subst Good (sym call.state) (emptied_good g.row.N.Denot g.row.E.Denot 0 0 0 (omega arith)) ∣₁ }
+    let e = ap (λ (z : State g.row.N.Denot g.row.E.Denot). z.arc_places) call.state in record { few = omega arith; good = ∣ subst Good (sym call.state) (emptied_good g.row.N.Denot g.row.E.Denot 0 0 0 (omega arith)) ∣₁ }

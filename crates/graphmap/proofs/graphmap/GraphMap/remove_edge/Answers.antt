@@ -1,4 +1,4 @@
-use Rattle.std.proofs.Common.{refl, ap, ◌∙◌}
+use Rattle.std.proofs.Common.{refl, ◌∙◌}
 use Rattle.map_layout.specs.Layout.{model}
 use Rattle.map_layout.proofs.Editing.{removal_answers, edge_removed_to}
 use Rattle.map_model.specs.Model.{edge_removed_at}
@@ -10,26 +10,23 @@ pub invariant_of-self : goal.invariant_of-self
 invariant_of-self g c =
     let m = c.args.self.now in
     let st = state m.tables in
-    let i = c.node_index.result in
-    let j = c.node_index-2.result in
-    let call = c.remove_edge.ensures in
-    let w = kept st m.good c.remove_edge.new.self (edge_removed_at (model st) i.value j.value).1 (call.whole (record { nodes = m.nodes; arcs = m.arcs })) m.few refl
-    (edge_removed_to i j st (state c.remove_edge.new.self) c.remove_edge.result (call.done (record { nodes = m.nodes; arcs = m.arcs }))) in
-    record { nodes = w.0; arcs = w.1.0; few = w.1.1.0; good = w.1.1.1.0 }
+    let ends = c.between.result in
+    let w = kept st m.good c.remove_edge.new.self (edge_removed_at (model st) ends.source.value ends.target.value).1 m.few refl
+    (edge_removed_to ends.source ends.target st (state c.remove_edge.new.self) c.remove_edge.result c.remove_edge.ensures.done) in
+    record { few = w.0; good = w.1 }
 
 pub returns : goal.returns
 returns g c =
     let m = c.args.self.now in
     let st = state m.tables in
     let st' = state c.remove_edge.new.self in
-    let i = c.node_index.result in
-    let j = c.node_index-2.result in
-    let call = c.remove_edge.ensures in
+    let ends = c.between.result in
+    let e = c.between.ensures in
     let r = c.remove_edge.result in
-    let e = ap (λ z. edge_removed_at (model st) z j.value) c.node_index.ensures ∙ ap (edge_removed_at (model st) (g.N.NodeKey.index c.args.a)) c.node_index-2.ensures in
+    let done = c.remove_edge.ensures.done in
     record {
-      answer = removal_answers i j st st' r (call.done (record { nodes = m.nodes; arcs = m.arcs })) ∙ ap (λ p. p.0) e;
+      answer = removal_answers ends.source ends.target st st' r done ∙ (λ x. (edge_removed_at (model st) (e.source x) (e.target x)).0);
       shown =
-          shows st m.good st' (edge_removed_at (model st) i.value j.value).1 g.row.N.coded g.row.E.coded (edge_removed_to i j st st' r (call.done (record { nodes = m.nodes; arcs = m.arcs })))
-          ∙ ap (λ p. p.1) e;
+          shows st m.good st' (edge_removed_at (model st) ends.source.value ends.target.value).1 g.row.N.coded g.row.E.coded (edge_removed_to ends.source ends.target st st' r done)
+          ∙ (λ x. (edge_removed_at (model st) (e.source x) (e.target x)).1);
     }

@@ -13,9 +13,9 @@ invariant_of-self g c =
     let st' = state c.remove_node.new.self in
     let i = c.node_index.result.value in
     let call = c.remove_node.ensures in
-    let w = kept st m.good c.remove_node.new.self (node_removed_at (model st) i).1 call.whole m.few (places_node_removed (model st) i)
+    let w = kept st m.good c.remove_node.new.self (node_removed_at (model st) i).1 m.few (places_node_removed (model st) i)
     (λ k. node_removed_to i st st' k (call.rep k) (call.shown k)) in
-    record { nodes = w.0; arcs = w.1.0; few = w.1.1.0; good = w.1.1.1.0 }
+    record { few = w.0; good = w.1 }
 
 pub returns : goal.returns
 returns g c =

@@ -1,42 +1,32 @@
-use Rattle.std.proofs.Common.{sym, ap, ◌∙◌}
+use Rattle.std.proofs.Common.{sym, ap, ◌∙◌, rules, tests}
+use Rattle.std.specs.Result.{is_ok}
+use Rattle.fault.specs.declared.Fault.TheVariants.{NodesFull}
 use Rattle.keyed_table.specs.Chains.{room_of}
-use Rattle.map_layout.proofs.Adding.{answer_there, answer_room, answer_full}
-use Rattle.map_layout.proofs.Calling.{put_ok, put_err, entered_there, entered_new}
+use Rattle.keyed_table.specs.Listing.{inserted}
+use Rattle.map_layout.proofs.Calling.{has_room, absent_at, answer_there, answer_new, entered_there, entered_new}
+use Rattle.graphmap.proofs.Reading.{mapped_both}
 use Rattle.graphmap.specs.States.{state}
 use Rattle.graphmap.proofs.Composing.{with_places}
 use Rattle.graphmap.proofs.tables.Tables.add_node.Goals as goal
 
-pub returns-in-Some : goal.returns-in-Some
-returns-in-Some g c =
+pub returns-then-contains : goal.returns-then-contains
+returns-then-contains g c =
     let st = state c.args.self.now in
-    record {
-      whole = λ w. w;
-      answer = λ w. sym (answer_there st c.args.key c.args.index _ (sym (c.in-Some.ensures w.nodes)));
-      state = λ w. entered_there st c.args.key c.args.index _ (sym (c.in-Some.ensures w.nodes));
-    }
+    let e = sym c.contains.ensures ∙ c.if-contains.true in
+    record { answer = answer_there st c.args.node.key c.args.node.index e; state = entered_there st c.args.node.key c.args.node.index e }
 
-pub returns-in-Ok : goal.returns-in-Ok
-returns-in-Ok g c =
+pub returns : goal.returns
+returns g c =
     let st = state c.args.self.now in
+    let n = c.args.node in
+    let absent = sym c.contains.ensures ∙ c.if-contains.false in
+    let put = c.insert.ensures in
     record {
-      whole = λ w. record { nodes = c.insert.ensures.intact w.nodes; arcs = w.arcs };
-      answer = λ w. sym (answer_room st c.args.key c.args.index
-          (put_ok st.node_places c.args.index.value st.nodes (sym (c.in_default.ensures w.nodes)) c.in-Ok.field-0 (c.in-Ok.ensures.answer w.nodes)));
-      state = λ w.
-          let l = c.insert.ensures.listing w.nodes in
-          let r = ap room_of c.insert.ensures.size in
-          (λ x. with_places st (l x) st.neighbors st.positions (r x)) ∙ entered_new st c.args.key c.args.index (sym (c.in_default.ensures w.nodes));
-    }
-
-pub returns-in-Err : goal.returns-in-Err
-returns-in-Err g c =
-    let st = state c.args.self.now in
-    record {
-      whole = λ w. record { nodes = c.insert.ensures.intact w.nodes; arcs = w.arcs };
-      answer = λ w. sym (answer_full st c.args.key c.args.index (sym (c.in_default.ensures w.nodes))
-          (put_err st.node_places c.args.index.value st.nodes (sym (c.in_default.ensures w.nodes)) c.in-Err.field-0 (c.in-Err.ensures.answer w.nodes)));
-      state = λ w.
-          let l = c.insert.ensures.listing w.nodes in
-          let r = ap room_of c.insert.ensures.size in
-          (λ x. with_places st (l x) st.neighbors st.positions (r x)) ∙ entered_new st c.args.key c.args.index (sym (c.in_default.ensures w.nodes));
+      answer =
+          mapped_both n.key NodesFull c.insert.result c.map.result c.map_err.result c.map.ensures.cases (λ x y q. search (rules, tests)) c.map_err.ensures.cases (λ x y q. search (rules, tests))
+          ∙ answer_new st n.key n.index (is_ok c.insert.result) absent (has_room st.node_places n.index.value st.nodes (absent_at st n.index absent) c.insert.result put.answer);
+      state =
+          let l = put.listing ∙ ap (λ r. inserted st.node_places n.index.value n.index r st.nodes) c.new.ensures in
+          let r = ap room_of put.size in
+          (λ x. with_places st (l x) st.neighbors st.positions (r x)) ∙ entered_new st n.key n.index absent;
     }

@@ -4,4 +4,4 @@ use Rattle.graphmap.specs.States.{state}
 use Rattle.graphmap.proofs.tables.Tables.contains_edge.Goals as goal
 
 pub returns : goal.returns
-returns g c = λ w. c.contains.ensures w.arcs ∙ has_arc (state c.args.self.now) c.args.source c.args.target
+returns g c = c.contains.ensures ∙ has_arc (state c.args.self.now) c.args.ends.source c.args.ends.target

@@ -9,9 +9,8 @@ returns g c =
     let st = state c.args.self.now in
     let cut = c.remove-removed.ensures in
     record {
-      whole = λ w. record { nodes = c.insert.ensures.intact w.nodes; arcs = w.arcs };
-      state = λ w.
+      state =
           drops_node st c.args.index c.args.place c.in-Some.node _ _ _ _ _ _ _
-          (sym (c.in-Some.ensures w.nodes)) (neighbors_kept c.args.self.now.links.slots.now c.remove-removed.new.entries.slots.now cut.kept) cut.answer cut.placed cut.started c.prev-oldest.ensures.answer
-          (c.insert.ensures.listing w.nodes) (ap room_of c.insert.ensures.size);
+          (sym c.in-Some.ensures) (neighbors_kept c.args.self.now.links.slots.now c.remove-removed.new.entries.slots.now cut.kept) cut.answer cut.placed cut.started c.prev-oldest.ensures.answer
+          c.insert.ensures.listing (ap room_of c.insert.ensures.size);
     }

@@ -13,11 +13,10 @@ pub returns-in_default-neighbor_at : goal.returns-in_default-neighbor_at
 returns-in_default-neighbor_at g c =
     let st = state c.args.self.now in
     record {
-      whole = c.requires;
       fewer = λ q. absurd (false≢true q);
       gone = λ q _. absurd (false≢true q);
       ended = λ _ good.
-          let o = sym (c.in-Some.ensures c.requires) in
+          let o = sym c.in-Some.ensures in
           let f = filled st good.rep c.args.index.value c.in-Some.place (oldest_linked st c.args.index.value c.in-Some.place good.rep o) in
           let e = c.in_default-neighbor_at.ensures in
           let h = f.1 in
@@ -28,10 +27,9 @@ pub returns : goal.returns
 returns g c =
     let st = state c.args.self.now in
     let cut = c.cut.ensures in
-    let o = sym (c.in-Some.ensures c.requires) in
+    let o = sym c.in-Some.ensures in
     let n = sym c.in-Some-neighbor_at.ensures in
     record {
-      whole = cut.whole;
       fewer = cut.fewer;
       gone = λ q good. subst (Cut c.args.index.value st) (sym (cut.gone q)) (cuts st good c.args.index c.in-Some.place c.in-Some-neighbor_at.neighbor o n);
       ended = λ q good.

@@ -6,7 +6,6 @@ pub returns : goal.returns
 returns g c =
     let push = c.push_front-pushed.ensures in
     record {
-      whole = λ w. record { nodes = w.nodes; arcs = w.arcs };
       state = gives_place (state c.args.self.now) c.args.place _ _ _ _
           (neighbors_kept c.args.self.now.links.slots.now c.push_front-pushed.new.entries.slots.now push.kept) push.answer push.placed push.started;
     }

@@ -6,12 +6,11 @@ use Rattle.graphmap.proofs.tables.Tables.lay.Goals as goal
 
 pub returns : goal.returns
 returns g c =
+    let ends = c.args.ends in
     let take = c.take_place-place.ensures in
     let link = c.link_both.ensures in
     let put = c.insert.ensures in
     record {
-      whole = λ w. let v = link.whole (take.whole w) in record { nodes = v.nodes; arcs = put.intact v.arcs };
-      state = λ w. let v = link.whole (take.whole w) in
-          lays_arc (state c.args.self.now) c.args.source c.args.target c.args.a c.args.b c.args.weight (state c.take_place-place.new.self) (state c.link_both.new.self) c.take_place-place.result _ _
-          take.place take.state (link.state (take.whole w)) (put.listing v.arcs) (ap room_of put.size);
+      state = lays_arc (state c.args.self.now) ends.source.index ends.target.index ends.source.key ends.target.key c.args.weight (state c.take_place-place.new.self) (state c.link_both.new.self) c.take_place-place.result c.indices.result _ _ c.indices.ensures
+          take.place take.state link.state put.listing (ap room_of put.size);
     }

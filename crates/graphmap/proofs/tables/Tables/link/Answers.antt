@@ -13,9 +13,8 @@ returns g c =
     let l1 = c.set_neighbor.new.links.slots.now in
     let l2 = c.push_front-pushed.new.entries.slots.now in
     record {
-      whole = λ w. record { nodes = c.insert.ensures.intact w.nodes; arcs = w.arcs };
-      state = λ w.
-          links_to_node st c.args.index c.args.place (unwrap_or (node_at c.args.index.value st) (lone c.args.key)) c.node_or_new-node.result c.args.neighbor _ _ _ _ _ _ _ _
-          (c.node_or_new-node.ensures w) (neighbors_kept l1 l2 push.kept ∙ put.neighbors) put.positions push.answer push.placed push.started c.or_place.ensures
-          (c.insert.ensures.listing w.nodes) (ap room_of c.insert.ensures.size);
+      state =
+          links_to_node st c.args.node.index c.args.place (unwrap_or (node_at c.args.node.index.value st) (lone c.args.node.key)) c.node_or_new-old.result c.args.neighbor _ _ _ _ _ _ _ _
+          c.node_or_new-old.ensures (neighbors_kept l1 l2 push.kept ∙ put.neighbors) put.positions push.answer push.placed push.started c.or.ensures
+          c.insert.ensures.listing (ap room_of c.insert.ensures.size);
     }

@@ -3,16 +3,16 @@ use Rattle.graphmap.specs.States.{state}
 use Rattle.graphmap.proofs.Composing.{both_of_loop, both_of_two}
 use Rattle.graphmap.proofs.tables.Tables.link_both.Goals as goal
 
-pub returns-then-get : goal.returns-then-get
-returns-then-get g c = record {
-  whole = λ w. c.link.ensures.whole w;
-  state = λ w. both_of_loop (state c.args.self.now) c.args.source c.args.target c.args.a c.args.b c.args.place _ (sym c.get-2.ensures ∙ sym c.if-get.true ∙ c.get.ensures) (c.link.ensures.state w);
-}
+pub returns-then-eq : goal.returns-then-eq
+returns-then-eq g c =
+    let ends = c.args.ends in
+    record { state = both_of_loop (state c.args.self.now) ends.source.index ends.target.index ends.source.key ends.target.key c.args.place _ (sym c.eq.ensures ∙ c.if-eq.true) c.link.ensures.state }
 
 pub returns : goal.returns
-returns g c = record {
-  whole = λ w. c.link-2.ensures.whole (c.link.ensures.whole w);
-  state = λ w.
-      both_of_two (state c.args.self.now) c.args.source c.args.target c.args.a c.args.b c.args.place _ _ _ (λ e. c.if-get.false (c.get.ensures ∙ sym e ∙ sym c.get-2.ensures)) c.partner.ensures
-      (c.link.ensures.state w) (c.link-2.ensures.state (c.link.ensures.whole w));
-}
+returns g c =
+    let ends = c.args.ends in
+    record {
+      state =
+          both_of_two (state c.args.self.now) ends.source.index ends.target.index ends.source.key ends.target.key c.args.place _ _ _ (sym c.eq.ensures ∙ c.if-eq.false) c.partner.ensures
+          c.link.ensures.state c.link-2.ensures.state;
+    }

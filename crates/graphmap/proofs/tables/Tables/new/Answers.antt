@@ -8,7 +8,6 @@ returns g c =
     let l = c.blank_all.ensures in
     let u = c.new-3.ensures.answer in
     record {
-      whole = record { nodes = n.intact; arcs = a.intact };
       state = λ x. record {
         nodes = n.listing x;
         arcs = a.listing x;

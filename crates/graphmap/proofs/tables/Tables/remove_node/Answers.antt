@@ -10,23 +10,20 @@ use Rattle.graphmap.proofs.Composing.{with_places}
 use Rattle.graphmap.proofs.tables.Tables.remove_node.Goals as goal
 
 pub loop-init : goal.loop-init
-loop-init g c = (c.requires, λ good. cut_none c.args.index.value (state c.args.self.now) good)
+loop-init g c = λ good. cut_none c.args.index.value (state c.args.self.now) good
 
 pub loop-preserved : goal.loop-preserved
 loop-preserved g c =
     let i = c.args.index.value in
-    let st1 = state c.loop.self in (
-      c.drop_oldest.ensures.whole,
-      λ good. let k = c.loop.invariant.1 good in cut_more i (state c.args.self.now) st1 (state c.drop_oldest.new.self) k (c.drop_oldest.ensures.gone c.loop-test.true k.good),
-    )
+    let st1 = state c.loop.self in
+    λ good. let k = c.loop.invariant good in cut_more i (state c.args.self.now) st1 (state c.drop_oldest.new.self) k (c.drop_oldest.ensures.gone c.loop-test.true k.good)
 
 pub returns-then-not-contains : goal.returns-then-not-contains
 returns-then-not-contains g c =
     let st = state c.args.self.now in
-    let h = sym (has_key st c.args.index) ∙ sym (c.contains.ensures c.requires.nodes) ∙ c.if-not-contains.true in
+    let h = sym (has_key st c.args.index) ∙ sym c.contains.ensures ∙ c.if-not-contains.true in
     let e = removed_absent (model st) c.args.index.value h in
     record {
-      whole = c.requires;
       answer = sym (ap (λ (p : Bool × Model g.row.N.Denot g.row.E.Denot). p.0) e);
       rep = λ good. good.rep;
       shown = λ good. sym (ap (λ (p : Bool × Model g.row.N.Denot g.row.E.Denot). p.1) e);
@@ -38,18 +35,16 @@ returns g c =
     let i = c.args.index in
     let st1 = state c.loop.self in
     let st2 = state c.drop_oldest.new.self in
-    let w = c.drop_oldest.ensures.whole in
     let out = c.swap_remove.ensures in
-    let h = sym (has_key st i) ∙ sym (c.contains.ensures c.requires.nodes) ∙ c.if-not-contains.false in
-    let l = out.listing w.nodes in
+    let h = sym (has_key st i) ∙ sym c.contains.ensures ∙ c.if-not-contains.false in
+    let l = out.listing in
     let r = ap room_of out.size in
     let gone : (k : Good st1) → with_places st2 _ st2.neighbors st2.positions _ ≡ node_gone i st1 =
     λ k. (λ x. with_places st2 (l x) st2.neighbors st2.positions (r x)) ∙ ap (node_gone i) (c.drop_oldest.ensures.ended c.loop-test.false k).0 in
     record {
-      whole = record { nodes = out.intact w.nodes; arcs = w.arcs };
       answer = sym (removed_there (model st) i.value h);
-      rep = λ good. let k = c.loop.invariant.1 good in
+      rep = λ good. let k = c.loop.invariant good in
           subst Rep (sym (gone k.good)) (gone_rep st1 k.good i (c.drop_oldest.ensures.ended c.loop-test.false k.good).1);
-      shown = λ good. let k = c.loop.invariant.1 good in
+      shown = λ good. let k = c.loop.invariant good in
           ap model (gone k.good) ∙ all_cut st st1 i h k (c.drop_oldest.ensures.ended c.loop-test.false k.good).1;
     }

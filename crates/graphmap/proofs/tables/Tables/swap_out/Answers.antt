@@ -9,9 +9,8 @@ returns g c =
     let st = state c.args.self.now in
     let swap = c.swap_link.ensures in
     record {
-      whole = λ w. record { nodes = c.insert.ensures.intact w.nodes; arcs = w.arcs };
-      state = λ w.
+      state =
           swaps_node st c.args.index c.args.place c.in-Some.node _ _ _ _ _ _ _
-          (sym (c.in-Some.ensures w.nodes)) swap.kept refl swap.placed swap.started c.last_swapped.ensures
-          (c.insert.ensures.listing w.nodes) (ap room_of c.insert.ensures.size);
+          (sym c.in-Some.ensures) swap.kept refl swap.placed swap.started c.last_swapped.ensures
+          c.insert.ensures.listing (ap room_of c.insert.ensures.size);
     }

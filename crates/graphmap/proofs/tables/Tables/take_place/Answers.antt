@@ -7,11 +7,11 @@ returns-in-Some g c =
     let pop = c.in-Some.ensures in
     let r = takes_unused (state c.args.self.now) _ _ _ (neighbors_kept c.args.self.now.links.slots.now c.pop.new.entries.slots.now pop.kept) c.in-Some.place
     (record { answer = pop.answer; placed = pop.placed; started = pop.started }) in
-    record { place = r.0; whole = λ w. record { nodes = w.nodes; arcs = w.arcs }; state = r.1 }
+    record { place = r.0; state = r.1 }
 
-pub returns-in-None : goal.returns-in-None
-returns-in-None g c =
-    let pop = c.in-None.ensures in
+pub returns : goal.returns
+returns g c =
+    let pop = c.in_default.ensures in
     let r = takes_fresh (state c.args.self.now) _ _ _ (neighbors_kept c.args.self.now.links.slots.now c.pop.new.entries.slots.now pop.kept)
     (record { answer = pop.answer; placed = pop.placed; started = pop.started }) in
-    record { place = r.0; whole = λ w. record { nodes = w.nodes; arcs = w.arcs }; state = r.1 }
+    record { place = r.0; state = r.1 }

@@ -4,9 +4,6 @@ use Rattle.keyed_table.proofs.table.KeyedTable.free.Goals as goal
 
 pub returns : goal.returns
 returns g c =
-    λ h.
-    let t = c.args.self.now in
-    let l = count t.slots.now t.len h in
+    let l = count c.args.self.now in
     let r = c.room_of.ensures in
-    let e = c.saturating_sub.ensures in
     omega arith

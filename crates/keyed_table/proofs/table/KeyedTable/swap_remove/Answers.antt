@@ -1,36 +1,33 @@
-use Rattle.std.proofs.Common.{refl, ap, ◌∙◌}
-use Rattle.keyed_table.specs.Chains.{listed, value_in}
-use Rattle.keyed_table.specs.Listing.{value_at, without}
-use Rattle.keyed_table.proofs.Calls.{value_there, value_missing, out_filled, out_range, out_kept, out_listing, out_missing}
+use Rattle.std.proofs.Common.{ap, ◌∙◌, arith}
+use Rattle.keyed_table.specs.Chains.{value_in}
+use Rattle.keyed_table.proofs.Calls.{chains, value_there, value_missing, within, out_filled, out_range, out_kept, out_listing}
 use Rattle.keyed_table.proofs.table.KeyedTable.swap_remove.Goals as goal
 
-pub returns-in-Some : goal.returns-in-Some
-returns-in-Some g c =
-    let t = c.args.self.now in
-    let s = t.slots.now in
-    let u = c.take_out.new.slots in
-    let i = c.in-Some.i in
-    let k = c.number.result in
-    let e = c.number.ensures in
-    record {
-      intact = λ h. out_kept s t.len h u k i (c.in-Some.ensures.found h) c.take_out.auto.slots
-          (c.take_out.ensures.items (out_filled s t.len h u k i (c.in-Some.ensures.found h)) (out_range s t.len h u k i (c.in-Some.ensures.found h)))
-          (c.take_out.ensures.linked (h.3, h.4) (out_range s t.len h u k i (c.in-Some.ensures.found h)));
-      answer = λ h. c.value_in-value.ensures ∙ ap value_in c.item.ensures ∙ value_there s t.len h k i (c.in-Some.ensures.found h) ∙ ap (λ z. value_at z (listed s t.len)) e;
-      listing = λ h. out_listing s t.len h u k i (c.in-Some.ensures.found h) c.take_out.auto.slots
-          (c.take_out.ensures.items (out_filled s t.len h u k i (c.in-Some.ensures.found h)) (out_range s t.len h u k i (c.in-Some.ensures.found h))) ∙ ap (λ z. without z (listed s t.len)) e;
-      size = c.take_out.auto.slots;
-    }
+pub returns-in_err-i-clause-answer : goal.returns-in_err-i-clause-answer
+returns-in_err-i-clause-answer g c = c.from_residual.ensures ∙ value_missing c.args.self.now (g.K.Key.code c.args.key.now) c.in_err-i.ensures
 
-pub returns-in-None : goal.returns-in-None
-returns-in-None g c =
+pub take_out-requires : goal.take_out-requires
+take_out-requires g c = let l = within c.args.self.now (g.K.Key.code c.args.key.now) c.in_ok-i.i c.in_ok-i.ensures in omega arith
+
+pub invariant_of-self : goal.invariant_of-self
+invariant_of-self g c =
     let t = c.args.self.now in
-    let s = t.slots.now in
-    let k = c.number.result in
-    let e = c.number.ensures in
+    let u = c.take_out.new.slots in
+    let k = g.K.Key.code c.args.key.now in
+    let i = c.in_ok-i.i in
+    let old = c.in_ok-i.ensures in
+    let r = out_range t u k i old in
+    record { kept = out_kept t u k i old c.take_out.auto.slots (c.take_out.ensures.items (out_filled t u k i old) r) (c.take_out.ensures.linked (chains t) r) }
+
+pub returns : goal.returns
+returns g c =
+    let t = c.args.self.now in
+    let u = c.take_out.new.slots in
+    let k = g.K.Key.code c.args.key.now in
+    let i = c.in_ok-i.i in
+    let old = c.in_ok-i.ensures in
     record {
-      intact = λ h. h;
-      answer = λ h. value_missing s t.len h k (c.in-None.ensures.found h) ∙ ap (λ z. value_at z (listed s t.len)) e;
-      listing = λ h. out_missing s t.len h k (c.in-None.ensures.found h) ∙ ap (λ z. without z (listed s t.len)) e;
-      size = refl;
+      answer = c.value_in-value.ensures ∙ ap value_in c.at.ensures ∙ value_there t k i old;
+      listing = out_listing t u k i old c.take_out.auto.slots (c.take_out.ensures.items (out_filled t u k i old) (out_range t u k i old));
+      size = c.take_out.auto.slots;
     }

@@ -1,5 +1,5 @@
 use Rattle.std.proofs.Common.{◌≡◌, map, get_or, set, refl, ap, ◌∙◌}
-use Rattle.linked_list.specs.declared.position.Position.{Position}
+use Rattle.linked_list.specs.Places.{Position}
 use Rattle.feedback_arc_set.specs.declared.fas_node.FasNode.{FasNode}
 use Rattle.feedback_arc_set.specs.Containers.{nodes_of, unlisted}
 use Rattle.feedback_arc_set.specs.Nodes.{blank_node}

@@ -1,12 +1,18 @@
-use Rattle.std.proofs.Common.{refl}
+use Rattle.std.proofs.Common.{map, ap, ◌∙◌}
+use Rattle.map_model.specs.Shown.{links_shown}
+use Rattle.graphmap.specs.Links.{links_left}
+use Rattle.graphmap.specs.Maps.{map_model}
 use Rattle.graphmap.specs.States.{state}
-use Rattle.graphmap.proofs.Showing.{begins}
+use Rattle.graphmap.proofs.Showing.{all_left}
 use Rattle.graphmap.proofs.graphmap.open.OpenMap.neighbors_directed.Goals as goal
 
-pub returns : goal.returns
-returns g c =
+pub returns-clause-all : goal.returns-clause-all
+returns-clause-all g c =
     let m = c.args.self.now.map.now in
-    record {
-      same = (refl, c.node_index-node.ensures, refl);
-      begins = begins (state m.tables) c.args.direction c.node_index-node.result.value (g.N.NodeKey.index c.args.a) c.oldest-place.result c.node_index-node.ensures (c.oldest-place.ensures (record { nodes = m.nodes; arcs = m.arcs })) m.good;
-    }
+    let d = c.args.direction in
+    let n = c.new-node.result in
+    let w = c.new-links.result in
+    let same = c.new-links.ensures.same in
+    (λ x. map (λ k. k.key) (links_left (state (same.0 x).tables) (same.1 x).index.value (same.2 x) w.place))
+    ∙ all_left (state m.tables) n.index.value d (map (λ k. k.key)) g.row.N.coded w.place (links_shown (map_model m) n.index.value d) c.new-links.ensures.begins
+    ∙ ap (λ i. map (λ k. k.key) (links_shown (map_model m) i d)) c.new-node.ensures.index

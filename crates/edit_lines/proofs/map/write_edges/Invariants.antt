@@ -1,0 +1,8 @@
+use Rattle.std.proofs.Common.{◌≡◌, ◌++◌, string_bytes}
+use Rattle.std.specs.List.{flat_map}
+use Rattle.graphmap.specs.Cursors.{edges_left}
+use Rattle.edit_lines.specs.Maps.{arc_line}
+use Rattle.edit_lines.proofs.map.write_edges.Given as goal
+
+abbrev pub invariant-loop-edge : goal.invariant-loop-edge
+invariant-loop-edge l = string_bytes l.out ++ flat_map (arc_line l.word) (edges_left l.edge-iterator) ≡ string_bytes l.initial.out ++ flat_map (arc_line l.word) (edges_left l.initial.edge-iterator)

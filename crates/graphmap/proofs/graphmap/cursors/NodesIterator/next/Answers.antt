@@ -1,0 +1,28 @@
+use Rattle.std.proofs.Common.{◌+◌, cond, is_some, Some, sym, refl, ap, ◌∙◌}
+use Rattle.std.specs.Iterator.{YieldsFirst}
+use Rattle.keyed_table.proofs.Calls.{left_none, left_some}
+use Rattle.map_model.specs.Shown.{nodes_shown}
+use Rattle.graphmap.specs.Cursors.{nodes_left}
+use Rattle.graphmap.specs.Maps.{map_model}
+use Rattle.graphmap.proofs.Reading.{progress}
+use Rattle.graphmap.proofs.graphmap.cursors.NodesIterator.next.Goals as goal
+
+pub returns-in_err-node : goal.returns-in_err-node
+returns-in_err-node g c =
+    let s = c.args.self.now in
+    let e = c.from_residual.ensures in
+    let none = left_none (nodes_shown (map_model s.map.now)) s.position c.in_err-node.ensures.answer in
+    let first : YieldsFirst (λ nodes. nodes_left nodes) s c.from_residual.result s = rw e (none, none) in
+    record {
+      steps = record { first = first; answer = e ∙ c.in_err-node.ensures.answer; moved = sym (ap (λ r. cond (is_some r) (s.position + 1) s.position) e); same = refl };
+      goes = progress (λ nodes. nodes_left nodes) s c.from_residual.result s first;
+    }
+
+pub returns : goal.returns
+returns g c =
+    let s = c.args.self.now in
+    let first = left_some (nodes_shown (map_model s.map.now)) s.position c.in_ok-node.node c.in_ok-node.ensures.answer in
+    record {
+      steps = record { first = first; answer = c.in_ok-node.ensures.answer; moved = refl; same = refl };
+      goes = progress (λ nodes. nodes_left nodes) s (Some c.in_ok-node.node) _ first;
+    }
