@@ -1,13 +1,16 @@
 -- What a start and the positions stand for: entries that are in, out, or apart.
-use Rattle.std.proofs.Common.{◌≡◌, ℕ, zero, suc, ◌<◌, ◌≤◌, true, false, eqb, ◌≢◌, List, [], ◌∷◌, ◌++◌, length, set, Some, None, Option, sym, refl, ap, ◌∙◌, subst, ⊎_elim, arith}
+use Rattle.std.proofs.Common.{◌≡◌, ℕ, zero, suc, ◌<◌, ◌≤◌, true, false, ◌||◌, eqb, ◌≢◌, List, [], ◌∷◌, ◌++◌, length, set, Some, None, Option, sym, refl, ap, ◌∙◌, subst, ⊎_elim, arith}
 use Rattle.std.proofs.lemmas.List.{get_or-set_other}
-use Rattle.std.proofs.lemmas.Bool.{cases_eq, cases_Bool, both_ways, cond_both, or_cases, eqb-true}
+use Rattle.std.proofs.lemmas.Bool.{cases_eq, cases_Bool, both_ways, ne_eqb, cond_both, or_cases, eqb-true}
 use Rattle.linked_list.specs.Places.{Position, enlisted, is_in, prev_of, next_of, at}
 use Rattle.linked_list.specs.Chains.{has, first, last_from, last, without, Chain, Holds, Other, walk, entries_of}
-use Rattle.linked_list.proofs.Members.{none_first, none_rest, none_cons, spliced_here, spliced_later, none_spliced}
+use Rattle.linked_list.proofs.Members.{none_first, none_rest, none_cons, has_first, first_not, spliced_here, spliced_later, none_spliced}
 use Rattle.linked_list.proofs.Reading.{in_range}
 
 -- ---- one entry of a chain
+pub in_is : (p : Position) (a b : Option ℕ) → p ≡ enlisted a b → is_in p ≡ true
+in_is p a b e = ap is_in e
+
 pub free_is : (p : Position) → is_in p ≡ false → p ≡ None
 free_is None e = refl
 free_is (Some p) e = cc
@@ -155,3 +158,40 @@ walk_chain (suc n) L q s (x ∷ l) c e f =
 
 pub holds_read : (L : List Position) (s : Option ℕ) (l : List ℕ) → Holds L s l → entries_of L s ≡ l
 holds_read L s l h = walk_chain (length L) L None s l h.linked h.starts (holds_length L s l h)
+
+-- ---- for those who keep several lists
+pub other_sym : (s t : Option ℕ) → Other s t → Other t s
+other_sym s t o h a b = o h b a
+
+-- lists with no entry in common have different starts
+pub other_from : (L : List Position) (s t : Option ℕ) (l m : List ℕ) → Holds L s l → Holds L t m → ((i : ℕ) → has l i ≡ true → has m i ≡ false) → Other t s
+other_from L s t l m h k d i a b = first_not m i (d i (has_first l i (sym h.starts ∙ b))) (sym k.starts ∙ a)
+
+-- an entry whose status stays is in no list if it was in none
+pub stays_free : (L M : List Position) (j : ℕ) → is_in (at M j) ≡ is_in (at L j) → at L j ≡ None → at M j ≡ None
+stays_free L M j e f = free_is (at M j) (e ∙ ap is_in f)
+
+pub holds_differ : (L : List Position) (s : Option ℕ) (l : List ℕ) → Holds L s l → Differ l
+holds_differ L s l h = chain_differ L None l h.linked
+
+-- ---- what is in a list that i left
+pub without_same : (i : ℕ) (l : List ℕ) → Differ l → has (without i l) i ≡ false
+without_same i [] d = refl
+without_same i (x ∷ l) d = ⊎_elim
+    (λ (e : x ≡ i). ap (λ k. has k i) (spliced_here i [] l x e) ∙ subst (λ z. has l z ≡ false) e d.0)
+    (λ (n : x ≢ i). ap (λ k. has k i) (spliced_later i [] l x n) ∙ none_cons x (without i l) i (λ q. n (sym q)) (without_same i l d.1))
+    (cases_eq x i)
+
+pub without_other : (i : ℕ) (l : List ℕ) (j : ℕ) → j ≢ i → has (without i l) j ≡ has l j
+without_other i [] j n = refl
+without_other i (x ∷ l) j n = ⊎_elim
+    (λ (e : x ≡ i). ap (λ k. has k j) (spliced_here i [] l x e) ∙ ap (λ b. b || has l j) (sym (ne_eqb x j (λ q. n (sym q ∙ e)))))
+    (λ (m : x ≢ i). ap (λ k. has k j) (spliced_later i [] l x m) ∙ ap (λ b. eqb x j || b) (without_other i l j n))
+    (cases_eq x i)
+
+pub without_length : (i : ℕ) (l : List ℕ) → has l i ≡ true → length l ≡ suc (length (without i l))
+without_length i [] h = absurd (both_ways (has [] i) refl h)
+without_length i (x ∷ l) h = ⊎_elim
+    (λ (e : x ≡ i). ap suc (ap length (sym (spliced_here i [] l x e))))
+    (λ (n : x ≢ i). ap suc (without_length i l (⊎_elim (λ t. absurd (n (eqb-true x i t))) (λ t. t) (or_cases (eqb x i) (has l i) h)) ∙ ap length (sym (spliced_later i [] l x n))))
+    (cases_eq x i)

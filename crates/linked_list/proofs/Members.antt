@@ -1,6 +1,6 @@
 -- Being in a list of indices.
-use Rattle.std.proofs.Common.{◌≡◌, ℕ, true, false, ◌||◌, eqb, ◌≢◌, List, [], ◌∷◌, ◌++◌, Some, sym, refl, ap, ◌∙◌, subst, arith}
-use Rattle.std.proofs.lemmas.Bool.{eq-eqb, ne_eqb, eqb-false, cond-true, cond-false, cond_both, both_ways, or_parts, or_from, or_left, or_right}
+use Rattle.std.proofs.Common.{◌≡◌, ℕ, true, false, ◌||◌, eqb, ◌≢◌, List, [], ◌∷◌, ◌++◌, Some, sym, refl, ap, ◌∙◌, subst, ⊎_elim, arith}
+use Rattle.std.proofs.lemmas.Bool.{eq-eqb, ne_eqb, eqb-false, cond-true, cond-false, cond_both, cases_Bool, both_ways, or_parts, or_from, or_left, or_right}
 use Rattle.linked_list.specs.Chains.{has, first, spliced}
 
 pub none_first : (x : ℕ) (l : List ℕ) (j : ℕ) → has (x ∷ l) j ≡ false → j ≢ x
@@ -25,6 +25,12 @@ has_first (x ∷ l) i e = let q : x ≡ i = cc in subst (λ z. has (x ∷ l) z �
 -- what is not in l is not the first of l
 pub first_not : (l : List ℕ) (i : ℕ) → has l i ≡ false → first l ≡ Some i → ⊥
 first_not l i h e = both_ways (has l i) h (has_first l i e)
+
+pub has_not : (l : List ℕ) (i : ℕ) → (has l i ≡ false → ⊥) → has l i ≡ true
+has_not l i n = ⊎_elim (λ h. h) (λ h. absurd (n h)) (cases_Bool (has l i))
+
+pub none_not : (l : List ℕ) (i : ℕ) → (has l i ≡ true → ⊥) → has l i ≡ false
+none_not l i n = ⊎_elim (λ h. absurd (n h)) (λ h. h) (cases_Bool (has l i))
 
 pub has_append : (a b : List ℕ) (i : ℕ) → has (a ++ b) i ≡ (has a i || has b i)
 has_append [] b i = refl

@@ -176,6 +176,11 @@ pub replaced_list : (L : List Position) (start : Option ℕ) (i j : ℕ) → can
 replaced_list L start i j h f r s l k =
     every L (after_replace L i j) start i (prev_of (at L i)) (next_of (at L i)) (j ∷ []) (Some j) (Some j) (between L start i h) (replace_spliced L start i j h f r) s l k (free_fresh L s l j k f)
 
+pub replaced_other : (L : List Position) (start : Option ℕ) (i j : ℕ) → can_remove L start i ≡ true → at L j ≡ None → j < length L
+    → (s : Option ℕ) (l : List ℕ) → Holds L s l → Other s start → Holds (after_replace L i j) s (replaced i j l)
+replaced_other L start i j h f r s l k o =
+    every_other L (after_replace L i j) start i (prev_of (at L i)) (next_of (at L i)) (j ∷ []) (Some j) (Some j) (between L start i h) (replace_spliced L start i j h f r) s l k o (free_fresh L s l j k f)
+
 pub replace_free : (L : List Position) (start : Option ℕ) (i j : ℕ) → can_remove L start i ≡ true → at (after_replace L i j) i ≡ None
 replace_free L start i j h =
     let v = at L i in
