@@ -1,15 +1,15 @@
 -- The steps of the calls of a table.
 use Rattle.std.proofs.Common.{is_some, ◌≡◌, ℕ, suc, inl, inr, ◌+◌, ◌-◌, ◌<◌, ◌≤◌, ◌≢◌, Bool, true, false, cond, eqb, ltb, List, [], ◌∷◌, length, drop, drop-cons, get_or, set, replicate, Some, None, Ok, Err, Option, MatchOption, sym, refl, ap, ◌∙◌, subst, arith}
 use Rattle.std.specs.List.{slice_get}
-use Rattle.std.proofs.lemmas.List.{length-map, length-set, drop_all}
+use Rattle.std.proofs.lemmas.List.{length-map, length-set, length-replicate, drop_all}
 use Rattle.std.proofs.lemmas.Option.{slice_get_cases, slice_get_within, get_or_from_slice_get}
-use Rattle.std.proofs.lemmas.Bool.{le-ltb, ltb-true, ltb-false}
+use Rattle.std.proofs.lemmas.Bool.{le-ltb, ltb-true, ltb-false, cond-false}
 use Rattle.keyed_table.specs.declared.slots.Item.{Item}
 use Rattle.keyed_table.specs.declared.slots.Slot.{Slot}
 use Rattle.keyed_table.specs.declared.table.KeyedTable.{KeyedTable}
 use Rattle.keyed_table.specs.Tables.{places, listing, room}
 use Rattle.keyed_table.specs.Chains.{items, listed, Kept, Chains, Filled, holds_number, value_in, revalued, filled_gap, room_of, blank_slot}
-use Rattle.keyed_table.specs.Listing.{Different, place, has, found, value_at, insert_answer, inserted, changed_at, without}
+use Rattle.keyed_table.specs.Listing.{Different, place, has, found, value_at, insert_answer, inserted, changed_at, swapped_out, without}
 use Rattle.keyed_table.proofs.Mending.{blank_filled, blank_linked}
 use Rattle.keyed_table.proofs.Listed.{length_listed, nth_listed, listed_different, found_at, answer_some, answer_is, value_some, value_absent, put_filled, put_apart, put_changed, kept_changed, add_filled, add_apart, replaced, pushed, refused, removed_filled, removed_apart, removed_listed}
 
@@ -40,6 +40,21 @@ same_size s t i o e =
 
 pub kept_blank : {K V : Type 0} (s : List (Slot K V)) (n : ℕ) → s ≡ replicate n blank_slot → Kept s 0
 kept_blank s n e = (omega arith, blank_filled s n e, λ j h. absurd (omega arith), (blank_linked s n e).0, (blank_linked s n e).1)
+
+pub blank_size : {K V : Type 0} (s : List (Slot K V)) (n : ℕ) → s ≡ replicate n blank_slot → length s ≡ n
+blank_size s n e = ap length e ∙ length-replicate n blank_slot
+
+-- ---- slots that keep a list of n items
+module _ {K V : Type 0} (s : List (Slot K V)) (n : ℕ) (kept : Kept s n) where
+  pub has_some : (k : ℕ) (r : Option ℕ) → r ≡ found k (listed s n) → is_some r ≡ has k (listed s n)
+  has_some k None e = sym (unchosen (has k (listed s n)) (place k (listed s n)) e)
+  has_some k (Some i) e = sym (chosen (has k (listed s n)) (place k (listed s n)) i e).0
+
+  pub add_free : (i : ℕ) → i ≡ n → is_some (get_or (items s) i None) ≡ false
+  add_free i e = kept.1 i ∙ le-ltb i n (omega arith)
+
+  pub out_missing : (k : ℕ) → None ≡ found k (listed s n) → listed s n ≡ without k (listed s n)
+  out_missing k e = sym (cond-false (has k (listed s n)) (swapped_out (place k (listed s n)) (listed s n)) (listed s n) (unchosen (has k (listed s n)) (place k (listed s n)) e))
 
 -- ---- a list from a position on
 pub left_none : {X : Type 0} (l : List X) (i : ℕ) → None ≡ slice_get l i → drop i l ≡ []

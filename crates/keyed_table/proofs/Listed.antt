@@ -8,7 +8,7 @@ use Rattle.std.proofs.lemmas.Bool.Decides.{nat_tests}
 use Rattle.std.proofs.lemmas.Bool.{true≢false, false≢true, ne_eqb, cases_eq, cases_lt, eq-eqb, eqb-true, lt-ltb, le-ltb, cond-true, cond-false}
 use Rattle.keyed_table.specs.declared.slots.Item.{Item}
 use Rattle.keyed_table.specs.Chains.{number_of, numbers, holds_number, Filled, Apart, somes, value_in, revalued, filled_gap}
-use Rattle.keyed_table.specs.Listing.{Different, place, found, value_at, with_value, written, changed_at, swapped_out, without, answered, left}
+use Rattle.keyed_table.specs.Listing.{Different, place, has, found, value_at, with_value, written, changed_at, swapped_out, without, answered, left}
 use Rattle.keyed_table.proofs.Last.{last_is, none_last, last_none}
 
 -- ---- lists of options
@@ -167,6 +167,20 @@ module _ {K V : Type 0} (es : List (Option (Item K V))) (n : ℕ) (fits : n ≤ 
   pub value_absent : (k : ℕ) → place k (somes (take n es)) ≡ n → None ≡ value_at k (somes (take n es))
   value_absent k e = let m = length_listed in sym (value_none k (somes (take n es)) (omega arith))
 
+-- whether an item has the number
+pub has_is : {K V : Type 0} (es : List (Option (Item K V))) (n : ℕ) (fits : n ≤ length es) (filled : Filled es n) (apart : Apart es n) (k : ℕ) (r : Option ℕ)
+    → MatchOption r ((j : ℕ) → holds_number k (get_or es j None) ≡ true → ⊥) (λ i. holds_number k (get_or es i None) ≡ true) → is_some r ≡ has k (somes (take n es))
+has_is es n fits filled apart k None c =
+    let m = length_listed es n fits filled in
+    let f = found_none es n fits filled k c in
+    sym (le-ltb (place k (somes (take n es))) (length (somes (take n es))) (omega arith))
+has_is es n fits filled apart k (Some i) c =
+    let m = length_listed es n fits filled in
+    let f = found_at es n fits filled apart k i c in
+    let h = f.0 in
+    let e = f.1 in
+    sym (lt-ltb (place k (somes (take n es))) (length (somes (take n es))) (omega arith))
+
 -- ---- the item at a position
 module _ {K V : Type 0} (es : List (Option (Item K V))) (n : ℕ) (fits : n ≤ length es) (filled : Filled es n) where
   pub nth_listed : (i : ℕ) → get_or es i None ≡ slice_get (somes (take n es)) i
@@ -224,6 +238,9 @@ module _ {K V : Type 0} {Y : Type 0} (f : Option (Item K V) → Y) (es : List (O
 
 -- ---- an item's value is changed
 module _ {K V : Type 0} (es ds : List (Option (Item K V))) (n : ℕ) (fits : n ≤ length es) (filled : Filled es n) (i : ℕ) (v : V) (is : ds ≡ set es i (revalued v (get_or es i None))) where
+  pub put_fits : n ≤ length ds
+  put_fits = let a = ap length is in let b = length-set es i (revalued v (get_or es i None)) in omega arith
+
   pub put_filled : Filled ds n
   put_filled j = ap (λ z. is_some (get_or z j None)) is ∙ at_set is_some es i (revalued v (get_or es i None)) (some_revalued v (get_or es i None)) j ∙ filled j
 
@@ -259,6 +276,9 @@ kept_changed es n fits filled i v h = let m = length_listed es n fits filled in 
 
 -- ---- an item is added
 module _ {K V : Type 0} (es ds : List (Option (Item K V))) (n : ℕ) (fits : n ≤ length es) (filled : Filled es n) (x : Item K V) (range : n < length es) (is : ds ≡ set es n (Some x)) where
+  pub add_fits : n + 1 ≤ length ds
+  add_fits = let a = ap length is in let b = length-set es n (Some x) in omega arith
+
   add_here : get_or ds n None ≡ Some x
   add_here = ap (λ z. get_or z n None) is ∙ get_or-set_same es n (Some x) None range
 
@@ -347,6 +367,11 @@ module _ {K V : Type 0} (es ds : List (Option (Item K V))) (i m : ℕ) (fits : m
       ∙ sym (get_or-map Some (take m (set (somes (take (m + 1) es)) i (get_or (somes (take (m + 1) es)) m d))) j d x (omega arith))) in
       ap somes t ∙ somes_map (take m (set (somes (take (m + 1) es)) i (get_or (somes (take (m + 1) es)) m d))) ∙ sym w ∙ ap (λ z. swapped_out z (somes (take (m + 1) es))) (sym e) ∙ sym c
 
+  pub out_absent : (k : ℕ) → place k (somes (take (m + 1) es)) ≡ m + 1 → somes (take (m + 1) es) ≡ without k (somes (take (m + 1) es))
+  out_absent k e =
+      let n = length_listed es (m + 1) fits filled in
+      sym (cond-false (ltb (place k (somes (take (m + 1) es))) (length (somes (take (m + 1) es)))) (swapped_out (place k (somes (take (m + 1) es))) (somes (take (m + 1) es))) (somes (take (m + 1) es)) (le-ltb _ _ (omega arith)))
+
 -- ---- what an insertion answers and leaves
 answered_some : {V : Type 0} (o : Option V) (w : V) (b : Bool) → o ≡ Some w → Ok o ≡ answered o b
 answered_some o w b e = ap Ok e ∙ ap (λ z. answered z b) (sym e)
@@ -411,3 +436,8 @@ module _ {K V : Type 0} (es ds : List (Option (Item K V))) (n i : ℕ) (fits : n
 
   pub removed_apart : length ds ≡ length es → ((j : ℕ) → get_or ds j None ≡ filled_gap es i (n - 1) j) → Apart es n → Apart ds (n - 1)
   removed_apart same is a = out_apart es ds i (n - 1) (omega arith) (subst (Filled es) (sym one_less) filled) (omega arith) same is (subst (Apart es) (sym one_less) a)
+
+pub kept_listed : {K V : Type 0} (es : List (Option (Item K V))) (n : ℕ) (fits : n ≤ length es) (filled : Filled es n) (k : ℕ) → place k (somes (take n es)) ≡ n → somes (take n es) ≡ without k (somes (take n es))
+kept_listed es n fits filled k e =
+    let m = length_listed es n fits filled in
+    sym (cond-false (ltb (place k (somes (take n es))) (length (somes (take n es)))) (swapped_out (place k (somes (take n es))) (somes (take n es))) (somes (take n es)) (le-ltb _ _ (omega arith)))

@@ -1,6 +1,6 @@
 -- The steps of the calls on the chains of a slice of slots.
-use Rattle.std.proofs.Common.{is_some, ◌≡◌, ℕ, zero, suc, ◌+◌, ◌-◌, ◌*◌, ◌/◌, ◌%◌, ◌^◌, ◌<◌, ◌≤◌, min, Bool, true, false, cond, eqb, ltb, leb, ◌≢◌, List, length, get_or, set, replicate, Some, None, Option, sym, refl, ap, ◌∙◌, subst, ⊎_elim, mod-lt, mul_comm, div-lt_iff_lt-mul, mul-lt-mul_of_pos_right, arith, lit<}
-use native.Mathlib.Nat.{min-le_left}
+use Rattle.std.proofs.Common.{is_some, ◌≡◌, ℕ, zero, suc, ◌+◌, ◌-◌, ◌*◌, ◌/◌, ◌%◌, ◌^◌, ◌<◌, ◌≤◌, min, Bool, true, false, cond, eqb, ltb, leb, ◌≢◌, List, [], ◌∷◌, length, get_or, set, replicate, Some, None, Option, sym, refl, ap, ◌∙◌, subst, ⊎_elim, mod-lt, mul_comm, div-lt_iff_lt-mul, mul-le-mul, mul-lt-mul_of_pos_right, arith, lit<}
+use native.Mathlib.Nat.{min-le_left, min-le_right}
 use Rattle.std.proofs.lemmas.List.{length-set, length-map, get_or-set_same, get_or-set_other, get_or_past, set_past}
 use Rattle.keys.specs.Numbers.{mixed}
 use Rattle.std.proofs.lemmas.Bool.Decides.{nat_tests}
@@ -13,6 +13,9 @@ use Rattle.keyed_table.proofs.Last.{IsLast, last_is, is_last, Walk, walk_more, w
 
 pub mixed_lt : (k : ℕ) → mixed k < 2 ^ 32
 mixed_lt k = (div-lt_iff_lt-mul {k = 2 ^ 32} {x = k * 11400714819323198485 % 2 ^ 64} {y = 2 ^ 32} (lit< tt)).1 (mod-lt (k * 11400714819323198485) (lit< tt))
+
+pub product_lt : (k m : ℕ) → mixed k * min m 4294967295 < 2 ^ 64
+product_lt k m = let x = mixed_lt k in let y = min-le_right m 4294967295 in let r = mul-le-mul {n₁ = mixed k} {m₁ = min m 4294967295} {n₂ = 4294967295} {m₂ = 4294967295} (omega arith) y in omega arith
 
 pub bucket_lt : (m k : ℕ) → 0 < m → bucket m k < m
 bucket_lt m k h =
@@ -174,6 +177,10 @@ module _ {K V : Type 0} (s t : List (Slot K V)) (i b q x : ℕ) (l : Chains s) (
       rw (ei, eh, en) (linked (set (items s) i None) (heads_to b q y (heads s)) (nexts_to q y (nexts s))
       (subst (Chained (homes (set (items s) i None)) (λ v. get_or (heads_to b q y (heads s)) v 0) (λ v. get_or (nexts_to q y (nexts s)) v 0)) (sym (length-set (items s) i None)) c))
 
+pub seek_empty : {K V : Type 0} (s : List (Slot K V)) (k : ℕ) → length s ≡ 0 → (j : ℕ) → holds_number k (get_or (items s) j None) ≡ true → ⊥
+seek_empty [] k e j h = false≢true h
+seek_empty (x ∷ xs) k e j h = omega arith
+
 -- ---- slots that are blanked
 module _ (K V : Type 0) where
   no_item : (n k : ℕ) → get_or (items {K = K} {V = V} (replicate n blank_slot)) k None ≡ None
@@ -262,6 +269,9 @@ module _ {K V : Type 0} (es : List (Option (Item K V))) (i m : ℕ) (filled : Fi
       (cases_eq j m))
       (cases_lt j m))
       (cases_eq j i)
+
+  pub last_there : None ≡ get_or es m None → ⊥
+  last_there e = false≢true (ap is_some e ∙ filled m ∙ lt-ltb m (m + 1) (omega arith))
 
 -- ---- between the steps of a removal
 module _ {K V : Type 0} (es ds fs : List (Option (Item K V))) (i m : ℕ) (low : i < m) (range : m < length es) (is : ds ≡ set es i None) where
