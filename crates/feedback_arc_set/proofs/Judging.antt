@@ -1,7 +1,7 @@
 -- Which verdict a network gets, and what the ordering is left with.
-use Rattle.std.proofs.Common.{◌≡◌, ℕ, ◌+◌, ◌*◌, ◌<◌, ◌≤◌, false, cond, ◌||◌, ltb, List, [], length, drop, replicate, Some, None, Ok, Option, MatchOption, sym, refl, ap, ◌∙◌, subst, arith}
+use Rattle.std.proofs.Common.{◌≡◌, ℕ, ◌+◌, ◌*◌, ◌<◌, ◌≤◌, true, false, cond, ◌||◌, ltb, List, [], length, drop, replicate, Some, None, Ok, Option, MatchOption, sym, refl, ap, ◌∙◌, subst, arith}
 use Rattle.std.specs.Option.{unwrap_or, ok_or}
-use Rattle.std.proofs.lemmas.Bool.{cond-true, cond-false, lt-ltb, le-ltb}
+use Rattle.std.proofs.lemmas.Bool.{cond-true, cond-false, lt-ltb, le-ltb, or_parts, ltb-false}
 use Rattle.keys.specs.declared.node_index.NodeIndex.{NodeIndex}
 use Rattle.fault.specs.declared.Fault.TheVariants.{WorkTablesShort}
 use Rattle.keyed_table.specs.Tables.{listing}
@@ -15,8 +15,14 @@ use Rattle.feedback_arc_set.specs.Orders.{entry_places, neighbour_places, class_
 use Rattle.feedback_arc_set.specs.Verdicts.{too_large, unfit, crowded, fit, verdict, answer, Leaves, Blank, HoldsNone, HoldsOrder}
 
 module _ (network : List Link) (t : WorkTables) where
+  pub is_too_large : 16384 < length network → verdict network t ≡ too_large
+  is_too_large l = cond-true (ltb 16384 (length network)) too_large _ (lt-ltb 16384 (length network) l)
+
   small : length network ≤ 16384 → verdict network t ≡ cond (ltb (length (neighbour_places t)) (2 * length network) || ltb (length (class_places t)) (2 * length network + 1)) unfit (cond (ltb (node_places t) (length (touched network))) crowded fit)
   small l = cond-false (ltb 16384 (length network)) too_large _ (le-ltb 16384 (length network) l)
+
+  pub is_unfit : length network ≤ 16384 → (ltb (length (neighbour_places t)) (2 * length network) || ltb (length (class_places t)) (2 * length network + 1)) ≡ true → verdict network t ≡ unfit
+  is_unfit l s = small l ∙ cond-true (ltb (length (neighbour_places t)) (2 * length network) || ltb (length (class_places t)) (2 * length network + 1)) unfit _ s
 
   enough : length network ≤ 16384 → (ltb (length (neighbour_places t)) (2 * length network) || ltb (length (class_places t)) (2 * length network + 1)) ≡ false → verdict network t ≡ cond (ltb (node_places t) (length (touched network))) crowded fit
   enough l s = small l ∙ cond-false (ltb (length (neighbour_places t)) (2 * length network) || ltb (length (class_places t)) (2 * length network + 1)) unfit _ s
@@ -26,6 +32,10 @@ module _ (network : List Link) (t : WorkTables) where
 
   pub is_fit : length network ≤ 16384 → (ltb (length (neighbour_places t)) (2 * length network) || ltb (length (class_places t)) (2 * length network + 1)) ≡ false → length (touched network) ≤ node_places t → verdict network t ≡ fit
   is_fit l s m = enough l s ∙ cond-false (ltb (node_places t) (length (touched network))) crowded fit (le-ltb (node_places t) (length (touched network)) m)
+
+  -- the tables have the places that were asked for
+  pub has_places : (ltb (length (neighbour_places t)) (2 * length network) || ltb (length (class_places t)) (2 * length network + 1)) ≡ false → (2 * length network ≤ length (neighbour_places t)) × (2 * length network < length (class_places t))
+  has_places s = let p = or_parts _ _ s in let a = ltb-false (length (neighbour_places t)) (2 * length network) p.0 in let b = ltb-false (length (class_places t)) (2 * length network + 1) p.1 in (a, omega arith)
 
 -- tables whose neighbour and class places are as they were stay clean
 pub still_clean : (a b : WorkTables) → neighbour_places b ≡ neighbour_places a → class_places b ≡ class_places a → Clean a → Clean b
@@ -51,6 +61,12 @@ holds_order network a b g s k = record {
   entries = s;
   blank = k;
 }
+
+pub leaves_order : (network : List Link) (a b : Ordering) → verdict network a.tables ≡ fit → HoldsOrder network a b → Leaves (verdict network a.tables) network a b
+leaves_order network a b v h = subst (λ w. Leaves w network a b) (sym v) h
+
+pub leaves_none : (network : List Link) (a b : Ordering) → verdict network a.tables ≡ crowded → HoldsNone a b → Leaves (verdict network a.tables) network a b
+leaves_none network a b v h = subst (λ w. Leaves w network a b) (sym v) h
 
 -- what ordering a network that fits comes to: a is the ordering before, b the one after, and o the number of nodes, where they have places
 abbrev pub Ordered : List Link → WorkTables → WorkTables → Option ℕ → Type 0

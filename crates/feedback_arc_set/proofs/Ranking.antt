@@ -7,7 +7,7 @@ use Rattle.network.specs.Network.{Link}
 use Rattle.greedy_order.specs.Part3Order.{greedy_order}
 use Rattle.greedy_order.specs.Part7Folded.{run}
 use Rattle.fas_layout.specs.Columns.{Neighbours}
-use Rattle.fas_layout.specs.Laying.{Entered, down, links_from}
+use Rattle.fas_layout.specs.Laying.{EndsBelow, Entered, down, links_from}
 use Rattle.fas_layout.specs.Stages.{Stands, Stage, Any, Ordered}
 use Rattle.fas_layout.proofs.Bridge.{order_named, run_length}
 use Rattle.fas_layout.proofs.Entering.{met_all}
@@ -16,15 +16,20 @@ use Rattle.fas_layout.proofs.Staged.{stage_first}
 use Rattle.feedback_arc_set.specs.declared.container.FasNodeContainer.{FasNodeContainer}
 use Rattle.feedback_arc_set.specs.declared.buckets.Buckets.{Buckets}
 use Rattle.feedback_arc_set.specs.declared.places.ClassPlace.{ClassPlace}
+use Rattle.feedback_arc_set.specs.declared.places.NeighbourPlace.{NeighbourPlace}
 use Rattle.keyed_table.specs.Tables.{listing}
 use Rattle.feedback_arc_set.specs.Containers.{nodes_of, met_of, keys_of, key_in, columns, OwnNames, SameNames}
 use Rattle.feedback_arc_set.specs.Listed.{starts}
-use Rattle.feedback_arc_set.specs.Nodes.{blank_key, blank_class, starts_of}
+use Rattle.feedback_arc_set.specs.Nodes.{blank_key, blank_class, blank_neighbour, starts_of, BlankFrom}
 use Rattle.feedback_arc_set.specs.Steps.{Ranked}
 use Rattle.feedback_arc_set.proofs.Reading.{map_map, get_d_field, all_blank, names_long, same_names}
 
 pub met_long : (c : FasNodeContainer) → length (nodes_of c) ≡ length (met_of c)
 met_long c = length-map (listing c.table) (λ x. x.value) ∙ sym (length-map (listing c.table) (λ x. x.number))
+
+-- the ends of entered arcs are entries
+pub entered_ends : (network : List Link) (i : ℕ) (met nodes : List ℕ) (n : ℕ) → n ≡ length met → Entered network i met nodes → EndsBelow nodes i n
+entered_ends network i met nodes n l e j b = let p = e.ends j b in let p0 = p.0.0 in let p1 = p.1.0 in (omega arith, omega arith)
 
 -- the node that an entry's key names is the one that the entry is found by
 own_value : (c : FasNodeContainer) → OwnNames c → (x : ℕ) → (key_in c x).value ≡ get_or (met_of c) x 0
@@ -124,3 +129,12 @@ ranked_from network n n1 n2 N before last after s m count l c own e k1 k2 o q =
 
 pub classes_blank_from : (cs last : List ClassPlace) (n : ℕ) → cs ≡ last → length cs ≡ n → ((c : ℕ) → get_or (starts_of last) c None ≡ None) → cs ≡ replicate n blank_class
 classes_blank_from cs last n e l h = classes_blank cs n l (λ c. ap (λ v. get_or (starts_of v) c None) e ∙ h c)
+
+replicated_places : (n k : ℕ) → get_or (replicate n blank_neighbour) k blank_neighbour ≡ blank_neighbour
+replicated_places zero k = refl
+replicated_places (suc n) zero = refl
+replicated_places (suc n) (suc k) = replicated_places n k
+
+-- blank places are blank from any place on
+pub blank_from : (ps : List NeighbourPlace) (n k : ℕ) → ps ≡ replicate n blank_neighbour → BlankFrom ps k
+blank_from ps n k e j l = ap (λ v. get_or v j blank_neighbour) e ∙ replicated_places n j

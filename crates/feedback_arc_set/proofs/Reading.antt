@@ -1,26 +1,28 @@
 -- Entries read from the table and written into it, by column.
-use Rattle.std.proofs.Common.{◌≡◌, ℕ, zero, suc, ◌+◌, ◌-◌, ◌^◌, ◌<◌, List, [], ◌∷◌, map, length, get_or, set, replicate, Some, MatchOption, sym, refl, ap, ◌∙◌, arith}
+use Rattle.std.proofs.Common.{◌≡◌, ℕ, zero, suc, ◌+◌, ◌-◌, ◌^◌, ◌<◌, Bool, List, [], ◌∷◌, map, length, get_or, set, replicate, Some, None, MatchOption, sym, refl, ap, ◌∙◌, arith}
 use mathlib.Core.HLevel.{is_prop→PathP}
 use native.Mathlib.Bridge.{le_prop}
 use Rattle.std.specs.List.{slice_get}
-use Rattle.std.proofs.lemmas.List.{map-set, set-get_or, length-map, ext_get_or, length-replicate, get_or-replicate}
+use Rattle.std.proofs.lemmas.List.{map-set, set-get_or, length-map, get_or-set_other, ext_get_or, length-replicate, get_or-replicate}
 use Rattle.keys.specs.declared.fas_node_index.FasNodeIndex.{FasNodeIndex}
 use Rattle.keys.specs.declared.node_index.NodeIndex.{NodeIndex}
 use Rattle.keyed_table.specs.declared.slots.Item.{Item}
 use Rattle.keyed_table.specs.Listing.{changed_at}
 use Rattle.feedback_arc_set.specs.declared.fas_node.FasNode.{FasNode}
+use Rattle.feedback_arc_set.specs.declared.places.NeighbourPlace.{NeighbourPlace}
 use Rattle.keyed_table.specs.Tables.{listing}
+use Rattle.linked_list.specs.Places.{is_in, at}
 use Rattle.feedback_arc_set.specs.declared.buckets.Buckets.{Buckets}
 use Rattle.feedback_arc_set.specs.Listed.{SameSizes}
 use Rattle.feedback_arc_set.specs.declared.container.FasNodeContainer.{FasNodeContainer}
 use Rattle.network.specs.declared.direction.CompactDirection.{CompactDirection}
 use Rattle.network.specs.declared.direction.CompactDirection.TheVariants.{Outgoing, Incoming}
-use Rattle.fas_layout.specs.Columns.{SameLinks, SameButPositions}
+use Rattle.fas_layout.specs.Columns.{SameLinks, SameButPositions, class_of, class_at}
 use Rattle.network.specs.Directions.{opposite}
-use Rattle.fas_layout.specs.Following.{degrees}
+use Rattle.fas_layout.specs.Following.{degrees, firsts}
 use Rattle.fas_layout.specs.Laying.{Led, Sized}
 use Rattle.feedback_arc_set.specs.Containers.{nodes_of, columns, unlisted, unlisted_of, SameNames}
-use Rattle.feedback_arc_set.specs.Nodes.{blank_node, columns_of, lowered_node, led_node}
+use Rattle.feedback_arc_set.specs.Nodes.{blank_node, columns_of, lowered_node, led_node, degree_of, first_of, blank_neighbour, BlankFrom, SameButAt}
 
 pub fas_index_alike : (x y : FasNodeIndex) → x.value ≡ y.value → x ≡ y
 fas_index_alike x y e = λ i. record { value = e i; small = is_prop→PathP (λ j. e j < 2 ^ 32) (λ j. le_prop) x.small y.small i }
@@ -88,6 +90,9 @@ unlisted_same a b e = record {
 pub unlisted_names : (a b : FasNodeContainer) → unlisted_of a ≡ unlisted_of b → SameNames a b
 unlisted_names a b e = record { met = ap (λ r. r.1) e; names = ap (λ r. r.2) e; slots = ap (λ r. r.0) e }
 
+pub class_read : (m : ℕ) (ns : List FasNode) (y : ℕ) → class_of m (get_or ns y blank_node).out_degree (get_or ns y blank_node).in_degree ≡ class_at m (columns_of ns) y
+class_read m ns y = let a = get_d_field (λ (n : FasNode). n.out_degree) ns y blank_node in let b = get_d_field (λ (n : FasNode). n.in_degree) ns y blank_node in cc
+
 -- the entry i has one arc less
 pub record Lowered (d : CompactDirection) (ns ms : List FasNode) (i : ℕ) : Type 0 where
   pub positions : (columns_of ms).positions ≡ (columns_of ns).positions
@@ -112,12 +117,21 @@ lowered_columns Incoming ns ms i old e w = record {
 pub same_names : (a b c : FasNodeContainer) → SameNames a b → SameNames b c → SameNames a c
 same_names a b c p q = record { met = p.met ∙ q.met; names = p.names ∙ q.names; slots = p.slots ∙ q.slots }
 
+pub names_same : (a : FasNodeContainer) → SameNames a a
+names_same a = record { met = refl; names = refl; slots = refl }
+
 pub unlisted_long : (a b : FasNodeContainer) → unlisted_of a ≡ unlisted_of b → length (columns a).positions ≡ length (columns b).positions
 unlisted_long a b e =
     length-map (nodes_of a) (λ n. n.position) ∙ sym (length-map (nodes_of a) unlisted) ∙ ap (λ r. length r.3) e ∙ length-map (nodes_of b) unlisted ∙ sym (length-map (nodes_of b) (λ n. n.position))
 
+pub listed_read : (ns : List FasNode) (i : ℕ) (n : FasNode) (b : Bool) → n ≡ get_or ns i blank_node → b ≡ is_in n.position → is_in (at (columns_of ns).positions i) ≡ b
+listed_read ns i n b e l = ap is_in (get_d_field (λ k. k.position) ns i blank_node ∙ ap (λ k. k.position) (sym e)) ∙ sym l
+
 pub same_sizes : (a b c : Buckets) → SameSizes a b → SameSizes b c → SameSizes a c
 same_sizes a b c p q = record { arcs = p.arcs ∙ q.arcs; size = p.size ∙ q.size; top = p.top ∙ q.top; lender = p.lender ∙ q.lender }
+
+pub sizes_same : (a : Buckets) → SameSizes a a
+sizes_same a = record { arcs = refl; size = refl; top = refl; lender = refl }
 
 pub names_back : (a b : FasNodeContainer) → SameNames a b → SameNames b a
 names_back a b p = record { met = sym p.met; names = sym p.names; slots = sym p.slots }
@@ -140,6 +154,14 @@ led_columns Incoming ns ms i p old e w = record {
   places = kept_by (λ n. n.place) ns ms i old _ e w refl;
 }
 
+pub degree_read : (d : CompactDirection) (ns : List FasNode) (i : ℕ) (n : FasNode) → n ≡ get_or ns i blank_node → degree_of d n ≡ get_or (degrees d (columns_of ns)) i 0
+degree_read Outgoing ns i n e = ap (λ k. k.out_degree) e ∙ sym (get_d_field (λ k. k.out_degree) ns i blank_node)
+degree_read Incoming ns i n e = ap (λ k. k.in_degree) e ∙ sym (get_d_field (λ k. k.in_degree) ns i blank_node)
+
+pub first_read : (d : CompactDirection) (ns : List FasNode) (i : ℕ) (n : FasNode) → n ≡ get_or ns i blank_node → first_of d n ≡ get_or (firsts d (columns_of ns)) i None
+first_read Outgoing ns i n e = ap (λ k. k.first_out) e ∙ sym (get_d_field (λ k. k.first_out) ns i blank_node)
+first_read Incoming ns i n e = ap (λ k. k.first_in) e ∙ sym (get_d_field (λ k. k.first_in) ns i blank_node)
+
 pub columns_sized : (ns : List FasNode) → Sized (columns_of ns) (length ns)
 columns_sized ns = record {
   positions = length-map ns (λ n. n.position);
@@ -154,6 +176,13 @@ columns_sized ns = record {
 pub names_long : (a b : FasNodeContainer) → SameNames a b → length (nodes_of a) ≡ length (nodes_of b)
 names_long a b s =
     length-map (listing a.table) (λ x. x.value) ∙ sym (length-map (listing a.table) (λ x. x.number)) ∙ ap length s.met ∙ length-map (listing b.table) (λ x. x.number) ∙ sym (length-map (listing b.table) (λ x. x.value))
+
+-- ---- blank neighbour places
+pub set_others : (ps : List NeighbourPlace) (p : ℕ) (v : NeighbourPlace) → SameButAt ps (set ps p v) p
+set_others ps p v k ne = get_or-set_other ps p k v blank_neighbour ne
+
+pub still_blank : (ps qs : List NeighbourPlace) (p n : ℕ) → SameButAt ps qs p → p < n → BlankFrom ps n → BlankFrom qs n
+still_blank ps qs p n s b h k l = s k (λ e. omega arith) ∙ h k l
 
 pub all_blank : {X : Type 0} (ps : List X) (n : ℕ) (b : X) → length ps ≡ n → ((k : ℕ) → get_or ps k b ≡ b) → ps ≡ replicate n b
 all_blank ps n b l h = ext_get_or b ps (replicate n b) (l ∙ sym (length-replicate n b)) (λ i r. h i ∙ sym (get_or-replicate n i b b (omega arith)))

@@ -1,6 +1,7 @@
 -- The first item that passes a test, found step by step.
-use Rattle.std.proofs.Common.{◌≡◌, ℕ, zero, suc, ◌+◌, Bool, true, false, cond, List, [], ◌∷◌, drop, Some, None, Ok, Err, Option, Result, refl, ap, ◌∙◌, arith}
+use Rattle.std.proofs.Common.{◌≡◌, ℕ, zero, suc, ◌+◌, ◌≤◌, Bool, true, false, cond, List, [], ◌∷◌, length, drop, Some, None, Ok, Err, Option, Result, refl, ap, ◌∙◌, arith}
 use Rattle.std.specs.List.{slice_get, position_from}
+use Rattle.std.proofs.lemmas.List.{drop_all}
 use Rattle.std.specs.Borrow.{Bor}
 use Rattle.fault.specs.declared.Fault.{Fault}
 use Rattle.fault.specs.declared.Fault.TheVariants.{EndUnplaced}
@@ -23,6 +24,9 @@ module _ {X : Type 0} (test : X → Bool) (xs : List X) (i : ℕ) where
 
   pub first_later : (x : X) → Some x ≡ slice_get xs i → test x ≡ false → first_from test i (drop i xs) ≡ first_from test (i + 1) (drop (i + 1) xs)
   first_later x e t = opens x e ∙ ap (λ b. cond b (Some (i, x)) (first_from test (i + 1) (drop (i + 1) xs))) t
+
+  pub first_never : length xs ≤ i → first_from test i (drop i xs) ≡ None
+  first_never l = ap (first_from test i) (drop_all i xs l)
 
 -- the verdict on a source, by the position of the first arc that cannot be placed
 abbrev pub opened_by : Bor Ordering → Option ℕ → Result HeldArcs Fault

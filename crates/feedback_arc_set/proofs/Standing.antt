@@ -1,5 +1,6 @@
 -- Nodes at places of an order, and the places of nodes.
 use Rattle.std.proofs.Common.{◌≡◌, ℕ, zero, suc, ◌<◌, ◌≤◌, Bool, true, false, cond, ◌&&◌, ◌||◌, eqb, leb, ◌⊎◌, List, [], ◌∷◌, map, length, get_or, take, Some, None, MatchOption, sym, refl, ap, ◌∙◌, inl, inr, ⊎_elim, arith}
+use Rattle.std.specs.List.{slice_get}
 use Rattle.std.specs.Option.{option_zip}
 use Rattle.std.proofs.lemmas.List.{length-map, length-take-le}
 use Rattle.std.proofs.lemmas.Bool.{eqb-true, eq-eqb, true≢false}
@@ -15,6 +16,12 @@ use Rattle.feedback_arc_set.specs.Cursors.{placed_and_held}
 
 pub order_long : (xs : List NodeIndex) (n : ℕ) → n ≤ length xs → length (order_in xs n) ≡ n
 order_long xs n b = length-map (take n xs) (λ k. k.value) ∙ length-take-le n xs b
+
+pub index_taken : (xs : List NodeIndex) (n i : ℕ) → i < n → slice_get (map (λ k. k.value) xs) i ≡ slice_get (order_in xs n) i
+index_taken [] (suc n) i b = refl
+index_taken (x ∷ xs) (suc n) zero b = refl
+index_taken (x ∷ xs) (suc n) (suc i) b = index_taken xs n i (omega arith)
+index_taken xs zero i b = absurd (omega arith)
 
 pub place_at : (order : List ℕ) (p : ℕ) → EachOnce order → p < length order → place order (get_or order p 0) ≡ p
 place_at [] p o b = absurd (omega arith)
