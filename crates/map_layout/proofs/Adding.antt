@@ -1,5 +1,5 @@
 -- A node or an arc is added.
-use Rattle.std.proofs.Common.{◌≡◌, ℕ, ◌+◌, ◌<◌, ◌≤◌, true, false, ◌||◌, ltb, List, map, length, Some, None, Ok, Err, Option, Result, sym, refl, ap, ◌∙◌, subst, ⊎_elim, arith}
+use Rattle.std.proofs.Common.{◌≡◌, ℕ, ◌+◌, ◌<◌, ◌≤◌, Bool, true, false, cond, ◌||◌, ltb, List, map, length, Some, None, Ok, Err, Option, Result, sym, refl, ap, ◌∙◌, subst, ⊎_elim, arith}
 use Rattle.std.specs.Option.{option_map}
 use Rattle.std.proofs.lemmas.List.{length-map}
 use Rattle.std.proofs.lemmas.Bool.{cases_lt, lt-ltb, le-ltb, or_left, or_right, or_from, cond-true, cond-false}
@@ -13,8 +13,8 @@ use Rattle.map_model.specs.Lists as tests
 use Rattle.map_model.specs.Model.{Model, named, joined, with_tables, node_added_at}
 use Rattle.map_layout.specs.declared.records.IndexedKey.{IndexedKey}
 use Rattle.map_layout.specs.Layout.{State, NodeItem, Among, numbered, Idle, Names, Paired, Linked, Rep, partner, source_of, target_of, arc_in, node_of, model}
-use Rattle.map_layout.specs.Steps.{with_nodes, lone, entered, entered_by}
-use Rattle.map_layout.proofs.Items.{value_found, value_of, put_full}
+use Rattle.map_layout.specs.Steps.{with_nodes, lone, node_at, entered, entered_by}
+use Rattle.map_layout.proofs.Items.{value_found, value_of, put_full, value_none}
 use Rattle.map_layout.proofs.Stepping.{Base}
 use Rattle.map_layout.proofs.Reusing.{base_of}
 use Rattle.map_layout.proofs.Entering.{Entered, enters, has_node, found_has, none_has}
@@ -120,3 +120,13 @@ module _ {N E : Type 0} (st : State N E) (n : N) (i : NodeIndex) where
 
     pub node_adds : NodeAdded
     node_adds = added_by (found (numbered i.value) st.nodes) refl
+
+  answer_by : (b : Bool) → (tests.has (named i.value) (model st).nodes || ltb (length (model st).nodes) st.node_places) ≡ b → (node_added_at (model st) n i.value).0 ≡ cond b (Ok n) (Err NodesFull)
+  answer_by true t = ap (λ (p : Result N Fault × Model N E). p.0) (cond-true (tests.has (named i.value) (model st).nodes || ltb (length (model st).nodes) st.node_places) (Ok n, with_tables (model st) (joined n i.value (model st).nodes) (model st).arcs) (Err NodesFull, model st) t)
+  answer_by false t = ap (λ (p : Result N Fault × Model N E). p.0) (cond-false (tests.has (named i.value) (model st).nodes || ltb (length (model st).nodes) st.node_places) (Ok n, with_tables (model st) (joined n i.value (model st).nodes) (model st).arcs) (Err NodesFull, model st) t)
+
+  pub answer_room : length st.nodes < st.node_places → (node_added_at (model st) n i.value).0 ≡ Ok n
+  answer_room h = answer_by true (granted_room h)
+
+  pub answer_full : node_at i.value st ≡ None → st.node_places ≤ length st.nodes → (node_added_at (model st) n i.value).0 ≡ Err NodesFull
+  answer_full e h = answer_by false (granted_none (value_none i.value st.nodes e) h)
