@@ -28,7 +28,7 @@ const MOST_ARCS: u32 = 16385;
 fn read_steps(rt: &HostRuntime, steps: &mut Vec<JunctionStep>) -> anyhow::Result<Option<u64>> {
     let lines = BufReader::new(rt.alloc(), rt.stdin())?.lines(rt.alloc());
     for (line, count) in lines.zip(1u64..) {
-        match edit(rt.alloc(), line?.as_str())? {
+        match edit(line?.as_str()) {
             Some(edit) => steps.push(Step { edit, answer: None })?,
             None => return Ok(Some(count)),
         }

@@ -1,3 +1,4 @@
 pub mod Lines
 pub mod Maps
 pub mod Reading
+pub mod Words

@@ -1,12 +1,12 @@
-ghost use Rattle.std.specs.Prelude.{◌≡◌, ◌==◌, map, IfOk};
-ghost use Rattle.std.specs.List.{slice_split};
+ghost use Rattle.std.specs.Prelude.{◌≡◌};
 ghost use Rattle.std.specs.Option.{option_map};
 ghost use Rattle.edit_lines.specs.Reading.{by_number, number_in, node_edit, edit_in};
+ghost use Rattle.edit_lines.specs.Words.{words_in};
 
 use crate::steps::JunctionEdit;
+use crate::words::LineWords;
 use keys::Junction;
 use map_model::Edit;
-use std::alloc::{AllocError, Global};
 
 const MOST_DIGITS: usize = 10;
 
@@ -39,28 +39,22 @@ fn node_edit(verb: &str, node: Junction) -> Option<JunctionEdit>
     }
 }
 
-// The edit that these words mean: a verb, and as many numbers as it has.
-fn edit_of(words: &[&str]) -> Option<JunctionEdit>
-    ensures { option_map by_number result ≡ edit_in (map (λ word. word.now) words.now) }
-{
-    match words {
-        [verb, node] => node_edit(verb, junction(node)?),
-        [verb, source, target] => {
-            let edit = Edit::RemoveEdge(junction(source)?, junction(target)?);
-            (*verb == "remove-arc").then_some(edit)
-        }
-        [verb, source, target, weight] => {
-            let edit = Edit::AddEdge(junction(source)?, junction(target)?, number(weight)?);
-            (*verb == "arc").then_some(edit)
-        }
-        _ => None,
-    }
-}
-
 /// The edit that a line means, or `None` where it is none: words stand one space apart.
-pub fn edit(alloc: Global, line: &str) -> Result<Option<JunctionEdit>, AllocError>
-    ensures { IfOk result (λ edit. option_map by_number edit ≡ edit_in (slice_split (λ byte. byte == 32) line.now)) }
+pub fn edit(line: &str) -> Option<JunctionEdit>
+    ensures { option_map by_number result ≡ edit_in (words_in line.now) }
 {
-    let words: Vec<&str> = line.split(' ').collect(alloc)?;
-    Ok(edit_of(words.as_slice()))
+    let (verb, words) = LineWords::new(line).split_first()?;
+    let (first, words) = words.split_first()?;
+    let Some((second, words)) = words.split_first() else {
+        return node_edit(verb, junction(first)?);
+    };
+    let Some((weight, words)) = words.split_first() else {
+        let edit = Edit::RemoveEdge(junction(first)?, junction(second)?);
+        return (verb == "remove-arc").then_some(edit);
+    };
+    if words.split_first().is_some() {
+        return None;
+    }
+    let edit = Edit::AddEdge(junction(first)?, junction(second)?, number(weight)?);
+    (verb == "arc").then_some(edit)
 }

@@ -1,5 +1,5 @@
 -- Junctions by their numbers, and a number of rounds.
-use Rattle.std.proofs.Common.{◌≡◌, ℕ, zero, suc, ◌+◌, ◌-◌, ◌^◌, ◌<◌, ◌≤◌, ◌%◌, ◌==◌, cond, List, [], ◌∷◌, Some, None, Option, Bool, true, false, Bor, is_some, is_err, Result, sym, refl, ap, ◌∙◌, arith}
+use Rattle.std.proofs.Common.{◌≡◌, ℕ, zero, suc, ◌+◌, ◌-◌, ◌^◌, ◌<◌, ◌≤◌, ◌%◌, ◌==◌, cond, List, [], ◌∷◌, Some, None, Option, Bool, true, false, is_some, is_err, Result, sym, refl, ap, ◌∙◌, arith}
 use mathlib.Core.HLevel.{is_prop→PathP}
 use native.Mathlib.Bridge.{le_prop}
 use Rattle.std.proofs.Math.Nat.{mod-eq_of_lt}
@@ -7,6 +7,7 @@ use Rattle.std.specs.Bool.{then_some}
 use Rattle.std.specs.Option.{option_and_then}
 use Rattle.fault.specs.declared.Fault.{Fault}
 use Rattle.graphmap.specs.Capacity.{capacity_answer}
+use Rattle.edit_lines.specs.declared.words.LineWords.{LineWords}
 use Rattle.keys.specs.declared.junction.Junction.{Junction}
 use Rattle.edit_records.specs.Reading.{Words, texts, left, times, junction, number_at}
 use Rattle.edit_records.specs.Showing.{counted, after_list}
@@ -41,11 +42,11 @@ module _ {X : Type 0} (f : X → Words → Option Words) where
   not_shown zero x ys xs words all lt e none h = absurd (omega arith)
   not_shown (suc n) x ys xs words all lt e none h = sym h ∙ ap (λ zs. counted f (suc n) zs words) e ∙ ap (option_and_then (counted f n ys)) none
 
-pub left_if : (b : Bool) (rest : Bor (List (Bor (List ℕ)))) → left (then_some b rest) ≡ cond b (Some (texts rest.now)) None
+pub left_if : (b : Bool) (rest : LineWords) → left (then_some b rest) ≡ cond b (Some (texts rest)) None
 left_if true rest = refl
 left_if false rest = refl
 
-pub some_left : (rest : Option (Bor (List (Bor (List ℕ))))) → is_some rest ≡ is_some (left rest)
+pub some_left : (rest : Option LineWords) → is_some rest ≡ is_some (left rest)
 some_left None = refl
 some_left (Some rest) = refl
 

@@ -1,6 +1,5 @@
 -- Reading a record word by word: each reader takes the words that are left, and answers what it read and the words after it.
-use Rattle.std.specs.Prelude.{ℕ, ◌^◌, ◌%◌, zero, suc, cond, List, [], ◌∷◌, ◌++◌, ◌&&◌, map, Some, None, Option, nat_lt, codes}
-use Rattle.std.specs.Borrow.{Bor}
+use Rattle.std.specs.Prelude.{ℕ, ◌^◌, ◌%◌, zero, suc, cond, List, [], ◌∷◌, ◌++◌, ◌&&◌, Some, None, Option, nat_lt, codes}
 use Rattle.std.specs.Option.{option_map, option_and_then}
 use Rattle.std.specs.Str.{all_ascii_digits}
 use Rattle.std.specs.Str.Parse.{digits_value}
@@ -10,21 +9,23 @@ use Rattle.keys.specs.declared.junction.Junction.{Junction}
 use Rattle.map_model.specs.declared.Edit.{Edit}
 use Rattle.map_model.specs.declared.Edit.TheVariants.{AddNode, AddEdge, RemoveNode, RemoveEdge}
 use Rattle.edit_lines.specs.Reading.{same}
+use Rattle.edit_lines.specs.Words.{words_left}
+use Rattle.edit_lines.specs.declared.words.LineWords.{LineWords}
 
 abbrev pub Words : Type 0
 Words = List (List ℕ)
 
--- the words that lent texts have
-abbrev pub texts : List (Bor (List ℕ)) → Words
-texts words = map (λ word. word.now) words
+-- the words of a line that are still to be read
+abbrev pub texts : LineWords → Words
+texts words = words_left words
 
 -- what was read, and the words after it
-abbrev pub read : {X : Type 0} → Option (X × Bor (List (Bor (List ℕ)))) → Option (X × Words)
-read = option_map (λ r. (r.0, texts r.1.now))
+abbrev pub read : {X : Type 0} → Option (X × LineWords) → Option (X × Words)
+read = option_map (λ r. (r.0, texts r.1))
 
 -- the words that are left, where what stood before them was as it should be
-abbrev pub left : Option (Bor (List (Bor (List ℕ)))) → Option Words
-left = option_map (λ rest. texts rest.now)
+abbrev pub left : Option LineWords → Option Words
+left = option_map texts
 
 -- f is done n times, as long as it answers
 abbrev pub times : {X : Type 0} → ℕ → (X → Option X) → X → Option X

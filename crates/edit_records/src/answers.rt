@@ -4,41 +4,41 @@ ghost use Rattle.edit_records.specs.Reading.{texts, left};
 ghost use Rattle.edit_records.specs.Showing.{after, after_heading, after_number, after_weight, after_refusal, after_answer, after_answered, after_answers};
 
 use crate::reading::number;
-use edit_lines::JunctionStep;
+use edit_lines::{JunctionStep, LineWords};
 use fault::Fault;
 use keys::Junction;
 use map_model::Answer;
 
 // The words after this word, where they begin with it.
-fn after<'w, 'a>(words: &'w [&'a str], word: &str) -> Option<&'w [&'a str]>
-    ensures { left result ≡ after word.now (texts words.now) }
+fn after<'a>(words: LineWords<'a>, word: &str) -> Option<LineWords<'a>>
+    ensures { left result ≡ after word.now (texts words.entry) }
 {
     let (first, rest) = words.split_first()?;
-    (*first == word).then_some(rest)
+    (first == word).then_some(rest)
 }
 
-pub(crate) fn after_heading<'w, 'a>(words: &'w [&'a str], word: &str) -> Option<&'w [&'a str]>
-    ensures { left result ≡ after_heading word.now (texts words.now) }
+pub(crate) fn after_heading<'a>(words: LineWords<'a>, word: &str) -> Option<LineWords<'a>>
+    ensures { left result ≡ after_heading word.now (texts words.entry) }
 {
     after(after(words, "|")?, word)
 }
 
 /// The words after a recorded number, where it is this one.
-pub fn after_number<'w, 'a>(words: &'w [&'a str], value: u32) -> Option<&'w [&'a str]>
-    ensures { left result ≡ after_number value (texts words.now) }
+pub fn after_number<'a>(words: LineWords<'a>, value: u32) -> Option<LineWords<'a>>
+    ensures { left result ≡ after_number value (texts words.entry) }
 {
     let (recorded, rest) = number(words)?;
     (recorded == value).then_some(rest)
 }
 
-fn after_weight<'w, 'a>(words: &'w [&'a str], weight: u32) -> Option<&'w [&'a str]>
-    ensures { left result ≡ after_weight weight (texts words.now) }
+fn after_weight<'a>(words: LineWords<'a>, weight: u32) -> Option<LineWords<'a>>
+    ensures { left result ≡ after_weight weight (texts words.entry) }
 {
     after_number(after(words, "w")?, weight)
 }
 
-fn after_refusal<'w, 'a>(words: &'w [&'a str], fault: Fault) -> Option<&'w [&'a str]>
-    ensures { left result ≡ after_refusal (number_of fault) (texts words.now) }
+fn after_refusal<'a>(words: LineWords<'a>, fault: Fault) -> Option<LineWords<'a>>
+    ensures { left result ≡ after_refusal (number_of fault) (texts words.entry) }
 {
     match fault {
         Fault::NodesFull => after(words, "f2"),
@@ -48,11 +48,8 @@ fn after_refusal<'w, 'a>(words: &'w [&'a str], fault: Fault) -> Option<&'w [&'a 
 }
 
 // The words after what an edit answered, where it is what the words say.
-fn after_answer<'w, 'a>(
-    words: &'w [&'a str],
-    answer: Answer<Junction, u32>,
-) -> Option<&'w [&'a str]>
-    ensures { left result ≡ after_answer answer (texts words.now) }
+fn after_answer<'a>(words: LineWords<'a>, answer: Answer<Junction, u32>) -> Option<LineWords<'a>>
+    ensures { left result ≡ after_answer answer (texts words.entry) }
 {
     match answer {
         Answer::NodeAdded(Ok(_)) => after(words, "g"),
@@ -67,8 +64,8 @@ fn after_answer<'w, 'a>(
     }
 }
 
-fn after_answered<'w, 'a>(words: &'w [&'a str], step: JunctionStep) -> Option<&'w [&'a str]>
-    ensures { left result ≡ after_answered step.answer (texts words.now) }
+fn after_answered<'a>(words: LineWords<'a>, step: JunctionStep) -> Option<LineWords<'a>>
+    ensures { left result ≡ after_answered step.answer (texts words.entry) }
 {
     match step.answer {
         Some(answer) => after_answer(words, answer),
@@ -77,11 +74,11 @@ fn after_answered<'w, 'a>(words: &'w [&'a str], step: JunctionStep) -> Option<&'
 }
 
 // The words after the answers of these steps, where they are what the words say.
-pub(crate) fn after_answers<'w, 'a>(
-    words: &'w [&'a str],
+pub(crate) fn after_answers<'a>(
+    words: LineWords<'a>,
     steps: &[JunctionStep],
-) -> Option<&'w [&'a str]>
-    ensures { left result ≡ after_answers steps.now (texts words.now) }
+) -> Option<LineWords<'a>>
+    ensures { left result ≡ after_answers steps.now (texts words.entry) }
 {
     let mut rest = after_heading(words, "answers")?;
     for step in steps {

@@ -5,15 +5,13 @@ ghost use Rattle.edit_records.specs.Showing.{after_edge, after_edges, after_link
 
 use crate::answers::{after_heading, after_number};
 use crate::reading::number;
+use edit_lines::LineWords;
 use graphmap::OpenMap;
 use keys::Junction;
 use map_model::CompactDirection;
 
-fn after_edge<'w, 'a>(
-    words: &'w [&'a str],
-    edge: (Junction, Junction, u32),
-) -> Option<&'w [&'a str]>
-    ensures { left result ≡ after_edge edge (texts words.now) }
+fn after_edge<'a>(words: LineWords<'a>, edge: (Junction, Junction, u32)) -> Option<LineWords<'a>>
+    ensures { left result ≡ after_edge edge (texts words.entry) }
 {
     let (source, target, weight) = edge;
     let words = after_number(words, source.get())?;
@@ -21,13 +19,13 @@ fn after_edge<'w, 'a>(
     after_number(words, weight)
 }
 
-fn after_edges<'w, 'a>(
-    words: &'w [&'a str],
+fn after_edges<'a>(
+    words: LineWords<'a>,
     map: OpenMap<'_, '_, Junction, u32>,
     node: Junction,
     direction: CompactDirection,
-) -> Option<&'w [&'a str]>
-    ensures { left result ≡ after_edges (map_model map.entry.map.now) node direction (texts words.now) }
+) -> Option<LineWords<'a>>
+    ensures { left result ≡ after_edges (map_model map.entry.map.now) node direction (texts words.entry) }
 {
     let (mut count, mut rest) = number(words)?;
     for edge in map.edges_directed(node, direction) {
@@ -37,8 +35,8 @@ fn after_edges<'w, 'a>(
     (count == 0).then_some(rest)
 }
 
-fn after_link<'w, 'a>(words: &'w [&'a str]) -> Option<&'w [&'a str]>
-    ensures { left result ≡ after_link (texts words.now) }
+fn after_link<'a>(words: LineWords<'a>) -> Option<LineWords<'a>>
+    ensures { left result ≡ after_link (texts words.entry) }
 {
     let (_other, words) = number(words)?;
     let (_direction, words) = words.split_first()?;
@@ -46,8 +44,8 @@ fn after_link<'w, 'a>(words: &'w [&'a str]) -> Option<&'w [&'a str]>
 }
 
 // The links of a node are passed over, for its edges in both directions show them.
-fn after_links<'w, 'a>(words: &'w [&'a str]) -> Option<&'w [&'a str]>
-    ensures { left result ≡ after_links (texts words.now) }
+fn after_links<'a>(words: LineWords<'a>) -> Option<LineWords<'a>>
+    ensures { left result ≡ after_links (texts words.entry) }
 {
     let (count, mut rest) = number(words)?;
     for _ in 0..count {
@@ -56,12 +54,12 @@ fn after_links<'w, 'a>(words: &'w [&'a str]) -> Option<&'w [&'a str]>
     Some(rest)
 }
 
-fn after_node<'w, 'a>(
-    words: &'w [&'a str],
+fn after_node<'a>(
+    words: LineWords<'a>,
     map: OpenMap<'_, '_, Junction, u32>,
     node: Junction,
-) -> Option<&'w [&'a str]>
-    ensures { left result ≡ after_node (map_model map.entry.map.now) node (texts words.now) }
+) -> Option<LineWords<'a>>
+    ensures { left result ≡ after_node (map_model map.entry.map.now) node (texts words.entry) }
 {
     let words = after_number(words, node.get())?;
     let words = after_links(words)?;
@@ -69,11 +67,11 @@ fn after_node<'w, 'a>(
     after_edges(words, map, node, CompactDirection::Incoming)
 }
 
-fn after_nodes<'w, 'a>(
-    words: &'w [&'a str],
+fn after_nodes<'a>(
+    words: LineWords<'a>,
     map: OpenMap<'_, '_, Junction, u32>,
-) -> Option<&'w [&'a str]>
-    ensures { left result ≡ after_nodes (map_model map.entry.map.now) (texts words.now) }
+) -> Option<LineWords<'a>>
+    ensures { left result ≡ after_nodes (map_model map.entry.map.now) (texts words.entry) }
 {
     let (mut count, mut rest) = number(after_heading(words, "nodes")?)?;
     for node in map.nodes() {
@@ -83,11 +81,11 @@ fn after_nodes<'w, 'a>(
     (count == 0).then_some(rest)
 }
 
-fn after_arcs<'w, 'a>(
-    words: &'w [&'a str],
+fn after_arcs<'a>(
+    words: LineWords<'a>,
     map: OpenMap<'_, '_, Junction, u32>,
-) -> Option<&'w [&'a str]>
-    ensures { left result ≡ after_arcs (map_model map.entry.map.now) (texts words.now) }
+) -> Option<LineWords<'a>>
+    ensures { left result ≡ after_arcs (map_model map.entry.map.now) (texts words.entry) }
 {
     let (mut count, mut rest) = number(after_heading(words, "arcs")?)?;
     for edge in map.all_edges() {
@@ -98,11 +96,11 @@ fn after_arcs<'w, 'a>(
 }
 
 // The words after those that show this map.
-pub(crate) fn after_map<'w, 'a>(
-    words: &'w [&'a str],
+pub(crate) fn after_map<'a>(
+    words: LineWords<'a>,
     map: OpenMap<'_, '_, Junction, u32>,
-) -> Option<&'w [&'a str]>
-    ensures { left result ≡ after_map (map_model map.entry.map.now) (texts words.now) }
+) -> Option<LineWords<'a>>
+    ensures { left result ≡ after_map (map_model map.entry.map.now) (texts words.entry) }
 {
     after_arcs(after_nodes(words, map)?, map)
 }

@@ -3,7 +3,7 @@ ghost use Rattle.std.specs.Option.{option_map};
 ghost use Rattle.replay.specs.Steps.{edits_of};
 ghost use Rattle.edit_records.specs.Reading.{texts, read, recorded_number, number_at, junction_at, edit_at, edits_at};
 
-use edit_lines::{JunctionEdit, JunctionStep};
+use edit_lines::{JunctionEdit, JunctionStep, LineWords};
 use keys::Junction;
 use map_model::Edit;
 use replay::Step;
@@ -23,28 +23,28 @@ fn recorded_number(word: &str) -> Option<u32>
 }
 
 /// The recorded number that the words begin with, and the words after it.
-pub fn number<'w, 'a>(words: &'w [&'a str]) -> Option<(u32, &'w [&'a str])>
-    ensures { read result ≡ number_at (texts words.now) }
+pub fn number<'a>(words: LineWords<'a>) -> Option<(u32, LineWords<'a>)>
+    ensures { read result ≡ number_at (texts words.entry) }
 {
     let (word, rest) = words.split_first()?;
     Some((recorded_number(word)?, rest))
 }
 
 // The junction of a recorded number, and the words after it.
-fn junction<'w, 'a>(words: &'w [&'a str]) -> Option<(Junction, &'w [&'a str])>
-    ensures { read result ≡ junction_at (texts words.now) }
+fn junction<'a>(words: LineWords<'a>) -> Option<(Junction, LineWords<'a>)>
+    ensures { read result ≡ junction_at (texts words.entry) }
 {
     let (value, rest) = number(words)?;
     Some((Junction::new(value), rest))
 }
 
 // The edit that the words begin with, and the words after it.
-fn edit<'w, 'a>(words: &'w [&'a str]) -> Option<(JunctionEdit, &'w [&'a str])>
-    ensures { read result ≡ edit_at (texts words.now) }
+fn edit<'a>(words: LineWords<'a>) -> Option<(JunctionEdit, LineWords<'a>)>
+    ensures { read result ≡ edit_at (texts words.entry) }
 {
     let (verb, words) = words.split_first()?;
     let (first, words) = junction(words)?;
-    match *verb {
+    match verb {
         "n" => Some((Edit::AddNode(first), words)),
         "r" => Some((Edit::RemoveNode(first), words)),
         "x" => {
@@ -61,11 +61,11 @@ fn edit<'w, 'a>(words: &'w [&'a str]) -> Option<(JunctionEdit, &'w [&'a str])>
 }
 
 // A count and so many edits, as the steps of a replay, and the words after them.
-pub(crate) fn steps<'w, 'a>(
+pub(crate) fn steps<'a>(
     alloc: Global,
-    words: &'w [&'a str],
-) -> Result<Option<(Vec<JunctionStep>, &'w [&'a str])>, AllocError>
-    ensures { IfOk result (λ steps. option_map (λ r. (edits_of r.0.items, texts r.1.now)) steps ≡ edits_at (texts words.now)) }
+    words: LineWords<'a>,
+) -> Result<Option<(Vec<JunctionStep>, LineWords<'a>)>, AllocError>
+    ensures { IfOk result (λ steps. option_map (λ r. (edits_of r.0.items, texts r.1)) steps ≡ edits_at (texts words.entry)) }
 {
     let Some((count, mut rest)) = number(words) else {
         return Ok(None);

@@ -7,7 +7,7 @@ ghost use Rattle.edit_records.specs.Records.{built_for, after_replay, after_run,
 use crate::answers::after_answers;
 use crate::map::after_map;
 use crate::reading::{number, steps};
-use edit_lines::JunctionStep;
+use edit_lines::{JunctionStep, LineWords};
 use graphmap::{GraphMap, OpenMap};
 use heap_tables::MapTables;
 use keys::Junction;
@@ -20,12 +20,12 @@ const MOST_NODES: u32 = 4096;
 const MOST_ARCS: u32 = 16384;
 
 // The words after the answers of these steps, and after what this map shows.
-fn after_replay<'w, 'a>(
-    words: &'w [&'a str],
+fn after_replay<'a>(
+    words: LineWords<'a>,
     steps: &[JunctionStep],
     map: OpenMap<'_, '_, Junction, u32>,
-) -> Option<&'w [&'a str]>
-    ensures { left result ≡ after_replay steps.now (map_model map.entry.map.now) (texts words.now) }
+) -> Option<LineWords<'a>>
+    ensures { left result ≡ after_replay steps.now (map_model map.entry.map.now) (texts words.entry) }
 {
     after_map(after_answers(words, steps)?, map)
 }
@@ -36,9 +36,9 @@ fn replays_as(
     nodes: u32,
     arcs: u32,
     steps: &mut [JunctionStep],
-    words: &[&str],
+    words: LineWords<'_>,
 ) -> Result<bool, AllocError>
-    ensures { IfOk result (λ same. same ≡ is_some (after_run (built_for nodes arcs) (edits_of steps.old) (texts words.now))) }
+    ensures { IfOk result (λ same. same ≡ is_some (after_run (built_for nodes arcs) (edits_of steps.old) (texts words.entry))) }
 {
     let nodes = nodes.min(MOST_NODES) as usize;
     let arcs = arcs.min(MOST_ARCS) as usize;
@@ -53,8 +53,8 @@ fn replays_as(
 
 /// Whether the words of a record, after its first, agree: the edits on a map just built with the recorded numbers of places
 /// have the recorded answers, and leave a map that shows the recorded nodes and arcs. Words that are no record do not agree.
-pub fn record(alloc: Global, words: &[&str]) -> Result<bool, AllocError>
-    ensures { IfOk result (λ same. same ≡ agrees (texts words.now)) }
+pub fn record(alloc: Global, words: LineWords<'_>) -> Result<bool, AllocError>
+    ensures { IfOk result (λ same. same ≡ agrees (texts words.entry)) }
 {
     let Some((nodes, words)) = number(words) else {
         return Ok(false);

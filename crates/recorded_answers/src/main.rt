@@ -4,6 +4,7 @@
 
 mod orders;
 
+use edit_lines::LineWords;
 use std::io::{BufRead, BufReader};
 
 // How many records of a kind there are, and how many agree.
@@ -39,12 +40,11 @@ fn main(rt: HostRuntime) -> anyhow::Result<()> {
     let mut others = Tally::new();
     for line in BufReader::new(rt.alloc(), rt.stdin())?.lines(rt.alloc()) {
         let line = line?;
-        let words: Vec<&str> = line.as_str().split(' ').collect(rt.alloc())?;
-        match words.as_slice() {
-            ["edits", rest @ ..] => {
+        match LineWords::new(line.as_str()).split_first() {
+            Some(("edits", rest)) => {
                 edit_lists = edit_lists.with(edit_records::record(rt.alloc(), rest)?);
             }
-            ["order", rest @ ..] => orders = orders.with(orders::record(rt.alloc(), rest)?),
+            Some(("order", rest)) => orders = orders.with(orders::record(rt.alloc(), rest)?),
             _ => others = others.with(false),
         }
     }

@@ -1,5 +1,6 @@
 // Recorded orders: the nodes in their sequence and the positions of the held arcs.
 
+use edit_lines::LineWords;
 use edit_records::{after_number, number};
 use feedback_arc_set::Ordering;
 use heap_tables::WorkTables;
@@ -13,7 +14,7 @@ type JunctionArc = Arc<Junction, u32>;
 const MOST_ARCS: u32 = 16384;
 
 // The words after the nodes of an order, where they are the recorded ones, and no more.
-fn after_order<'w, 'a>(words: &'w [&'a str], ordering: &Ordering<'_>) -> Option<&'w [&'a str]> {
+fn after_order<'a>(words: LineWords<'a>, ordering: &Ordering<'_>) -> Option<LineWords<'a>> {
     let (mut count, mut rest) = number(words)?;
     for node in ordering.nodes() {
         count = count.checked_sub(1)?;
@@ -23,11 +24,11 @@ fn after_order<'w, 'a>(words: &'w [&'a str], ordering: &Ordering<'_>) -> Option<
 }
 
 // The words after the positions of the held arcs, where they are the recorded ones, and no more.
-fn after_held<'w, 'a>(
-    words: &'w [&'a str],
+fn after_held<'a>(
+    words: LineWords<'a>,
     ordering: &Ordering<'_>,
     source: &ArcSlice<'_, Junction, u32>,
-) -> Option<&'w [&'a str]> {
+) -> Option<LineWords<'a>> {
     let mut held = ordering.held(source).ok()?;
     let (count, mut rest) = number(words)?;
     for _ in 0..count {
@@ -37,7 +38,7 @@ fn after_held<'w, 'a>(
 }
 
 // Orders the arcs of a record in tables that are just large enough, and compares.
-fn orders_as(heap: Global, arcs: &[JunctionArc], words: &[&str]) -> Result<bool, AllocError> {
+fn orders_as(heap: Global, arcs: &[JunctionArc], words: LineWords<'_>) -> Result<bool, AllocError> {
     let count = arcs.len().min(MOST_ARCS as usize);
     let mut tables = WorkTables::new(heap, 2 * count, count)?;
     let mut ordering = tables.ordering();
@@ -54,7 +55,7 @@ fn orders_as(heap: Global, arcs: &[JunctionArc], words: &[&str]) -> Result<bool,
 }
 
 // The arc that the words begin with, and the words after it.
-fn arc<'w, 'a>(words: &'w [&'a str]) -> Option<(JunctionArc, &'w [&'a str])> {
+fn arc<'a>(words: LineWords<'a>) -> Option<(JunctionArc, LineWords<'a>)> {
     let (source, words) = number(words)?;
     let (target, words) = number(words)?;
     let arc = Arc {
@@ -66,10 +67,10 @@ fn arc<'w, 'a>(words: &'w [&'a str]) -> Option<(JunctionArc, &'w [&'a str])> {
 }
 
 // A count and so many arcs, and the words after them.
-fn arcs<'w, 'a>(
+fn arcs<'a>(
     heap: Global,
-    words: &'w [&'a str],
-) -> Result<Option<(Vec<JunctionArc>, &'w [&'a str])>, AllocError> {
+    words: LineWords<'a>,
+) -> Result<Option<(Vec<JunctionArc>, LineWords<'a>)>, AllocError> {
     let Some((count, mut rest)) = number(words) else {
         return Ok(None);
     };
@@ -85,7 +86,7 @@ fn arcs<'w, 'a>(
 }
 
 /// Whether the words of a record of an order, after its first, agree; words that are no record do not.
-pub fn record(heap: Global, words: &[&str]) -> Result<bool, AllocError> {
+pub fn record(heap: Global, words: LineWords<'_>) -> Result<bool, AllocError> {
     let Some((arcs, words)) = arcs(heap, words)? else {
         return Ok(false);
     };

@@ -2,15 +2,15 @@
 
 #![tactic(auto)]
 
+use edit_lines::LineWords;
 use edit_records::record;
 use std::alloc::{AllocError, Global};
 use std::io::{BufRead, BufReader};
 
 // Whether a line is a record of edits, and agrees.
 fn agrees(heap: Global, line: &str) -> Result<bool, AllocError> {
-    let words: Vec<&str> = line.split(' ').collect(heap)?;
-    match words.as_slice() {
-        ["edits", rest @ ..] => record(heap, rest),
+    match LineWords::new(line).split_first() {
+        Some(("edits", rest)) => record(heap, rest),
         _ => Ok(false),
     }
 }

@@ -6,19 +6,19 @@ use Rattle.edit_records.proofs.Rounds.{begun, ended, too_many, not_shown, left_i
 use Rattle.edit_records.proofs.map.after_edges.Goals as goal
 
 pub loop-edge-init : goal.loop-edge-init
-loop-edge-init c = begun after_edge _ _ c.in_ok-count.count (texts c.args.words.now) (texts c.in_ok-count.rest.now) c.in_ok-count.ensures (ap edges_left c.into_iter-edge-iterator.ensures.into_iter_gives ∙ c.edges_directed-edge-items.ensures.all)
+loop-edge-init c = begun after_edge _ _ c.in_ok-count.count (texts c.args.words) (texts c.in_ok-count.rest) c.in_ok-count.ensures (ap edges_left c.into_iter-edge-iterator.ensures.into_iter_gives ∙ c.edges_directed-edge-items.ensures.all)
 
 pub returns-in_err-count-2 : goal.returns-in_err-count-2
 returns-in_err-count-2 c =
     ap left c.from_residual-in_err-count-2.ensures
-    ∙ sym (too_many after_edge c.loop-edge.count c.in-Some.edge _ (edges_left c.loop-edge.edge-iterator) (texts c.loop-edge.rest.now) _ (omega (arith, c.in_err-count-2.ensures)) c.in-Some.ensures.steps.first c.loop-edge.invariant)
+    ∙ sym (too_many after_edge c.loop-edge.count c.in-Some.edge _ (edges_left c.loop-edge.edge-iterator) (texts c.loop-edge.rest) _ (omega (arith, c.in_err-count-2.ensures)) c.in-Some.ensures.steps.first c.loop-edge.invariant)
 
 pub returns-in_err-rest : goal.returns-in_err-rest
 returns-in_err-rest c =
     ap left c.from_residual-in_err-rest.ensures
-    ∙ sym (not_shown after_edge c.loop-edge.count c.in-Some.edge _ (edges_left c.loop-edge.edge-iterator) (texts c.loop-edge.rest.now) _ c.in_ok-count-2.ensures.0 c.in-Some.ensures.steps.first (sym c.in_err-rest.ensures) c.loop-edge.invariant)
+    ∙ sym (not_shown after_edge c.loop-edge.count c.in-Some.edge _ (edges_left c.loop-edge.edge-iterator) (texts c.loop-edge.rest) _ c.in_ok-count-2.ensures.0 c.in-Some.ensures.steps.first (sym c.in_err-rest.ensures) c.loop-edge.invariant)
 
 pub returns : goal.returns
 returns c =
     ap left c.then_some.ensures ∙ left_if (c.loop-edge.count == 0) c.loop-edge.rest
-    ∙ ended after_edge c.loop-edge.count (edges_left c.loop-edge.edge-iterator) (texts c.loop-edge.rest.now) _ c.in-None.ensures.steps.first.0 c.loop-edge.invariant
+    ∙ ended after_edge c.loop-edge.count (edges_left c.loop-edge.edge-iterator) (texts c.loop-edge.rest) _ c.in-None.ensures.steps.first.0 c.loop-edge.invariant

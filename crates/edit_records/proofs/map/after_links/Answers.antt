@@ -8,5 +8,5 @@ use Rattle.edit_records.proofs.map.after_links.Goals as goal
 pub loop-preserved : goal.loop-preserved
 loop-preserved c =
     ap (option_and_then (times _ after_link)) c.in_ok-rest.ensures
-    ∙ sym (one_left after_link c.in_ok-count.count c.loop.counter (texts c.loop.rest.now) c.loop-test.true)
+    ∙ sym (one_left after_link c.in_ok-count.count c.loop.counter (texts c.loop.rest) c.loop-test.true)
     ∙ c.loop.invariant

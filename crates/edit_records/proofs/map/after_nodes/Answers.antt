@@ -13,7 +13,7 @@ returns c =
     let m = map_model c.args.map.map.now in
     let items = c.nodes-node-items.result in
     let all = ap nodes_left c.into_iter-node-iterator.ensures.into_iter_gives ∙ ap (λ p. drop p (nodes_shown (map_model items.map.now))) c.nodes-node-items.ensures.1 ∙ ap (λ g. nodes_shown (map_model g)) c.nodes-node-items.ensures.0 in
-    let whole = begun (after_node m) (nodes_shown m) (nodes_left c.into_iter-node-iterator.result) c.in_ok-count.count (texts c.in_ok-after_heading.field-0.now) (texts c.in_ok-count.rest.now) c.in_ok-count.ensures all in
+    let whole = begun (after_node m) (nodes_shown m) (nodes_left c.into_iter-node-iterator.result) c.in_ok-count.count (texts c.in_ok-after_heading.field-0) (texts c.in_ok-count.rest) c.in_ok-count.ensures all in
     ap left c.then_some.ensures ∙ left_if (c.loop-node.count == 0) c.loop-node.rest
-    ∙ ended (after_node m) c.loop-node.count (nodes_left c.loop-node.node-iterator) (texts c.loop-node.rest.now) _ c.in-None.ensures.steps.first.0
+    ∙ ended (after_node m) c.loop-node.count (nodes_left c.loop-node.node-iterator) (texts c.loop-node.rest) _ c.in-None.ensures.steps.first.0
     (c.loop-node.invariant ∙ whole ∙ ap (option_and_then (after_list (after_node m) (nodes_shown m))) c.in_ok-after_heading.ensures)

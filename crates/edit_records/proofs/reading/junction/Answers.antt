@@ -6,5 +6,5 @@ use Rattle.edit_records.proofs.reading.junction.Goals as goal
 
 pub returns : goal.returns
 returns c =
-    ap (λ j. Some (j, texts c.in_ok-value.rest.now)) (junction_is c.new.result c.in_ok-value.value c.new.ensures)
+    ap (λ j. Some (j, texts c.in_ok-value.rest)) (junction_is c.new.result c.in_ok-value.value c.new.ensures)
     ∙ ap (option_map (λ r. (junction r.0, r.1))) c.in_ok-value.ensures

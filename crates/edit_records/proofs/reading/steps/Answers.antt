@@ -10,14 +10,14 @@ pub returns-in_default-edit : goal.returns-in_default-edit
 returns-in_default-edit c =
     let so_far = edits_of c.loop.steps.items in
     ap (λ e. option_and_then (times (c.in-Some.count - (c.loop.counter + 1)) one_more) (option_map (λ r. (so_far ++ r.0 ∷ [], r.1)) e)) c.in_default-edit.ensures
-    ∙ sym (one_left one_more c.in-Some.count c.loop.counter (so_far, texts c.loop.rest.now) c.loop-test.true)
+    ∙ sym (one_left one_more c.in-Some.count c.loop.counter (so_far, texts c.loop.rest) c.loop-test.true)
     ∙ c.loop.invariant
     ∙ ap (option_and_then (λ r. times r.0 one_more ([], r.1))) c.in-Some.ensures
 
 pub loop-preserved : goal.loop-preserved
 loop-preserved c =
     let so_far = edits_of c.loop.steps.items in
-    ap (λ es. times (c.in-Some.count - (c.loop.counter + 1)) one_more (es, texts c.in-Some-edit.after.now)) (ap edits_of c.in_ok-push.ensures.items ∙ map_push (λ s. s.edit) c.loop.steps.items _)
+    ap (λ es. times (c.in-Some.count - (c.loop.counter + 1)) one_more (es, texts c.in-Some-edit.after)) (ap edits_of c.in_ok-push.ensures.items ∙ map_push (λ s. s.edit) c.loop.steps.items _)
     ∙ ap (λ e. option_and_then (times (c.in-Some.count - (c.loop.counter + 1)) one_more) (option_map (λ r. (so_far ++ r.0 ∷ [], r.1)) e)) c.in-Some-edit.ensures
-    ∙ sym (one_left one_more c.in-Some.count c.loop.counter (so_far, texts c.loop.rest.now) c.loop-test.true)
+    ∙ sym (one_left one_more c.in-Some.count c.loop.counter (so_far, texts c.loop.rest) c.loop-test.true)
     ∙ c.loop.invariant

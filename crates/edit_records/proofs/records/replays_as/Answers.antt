@@ -11,7 +11,7 @@ pub returns : goal.returns
 returns c =
     let m = built_for c.args.nodes c.args.arcs in
     let edits = edits_of c.args.steps.now in
-    let words = texts c.args.words.now in
+    let words = texts c.args.words in
     let nodes : length c.places.result.nodes.now ≡ min c.args.nodes 4096 = c.places.ensures.nodes ∙ c.in_ok-tables.ensures.0 ∙ c.min-nodes.ensures in
     let arcs : length c.places.result.arcs.now ≡ min c.args.arcs 16384 = c.places.ensures.arcs ∙ c.in_ok-tables.ensures.1 ∙ c.min-arcs.ensures in
     let fresh : map_model c.with_capacity.new.self ≡ m =
