@@ -1,8 +1,10 @@
 -- The numbers and the arcs of a part of a file, one after another.
-use Rattle.std.proofs.Common.{◌≡◌, ℕ, zero, suc, ◌+◌, ◌-◌, ◌*◌, ◌/◌, ◌%◌, ◌<◌, ◌≤◌, List, [], ◌∷◌, length, get_or, take, drop, sym, refl, ap, ◌∙◌, arith, length-drop}
+use Rattle.std.proofs.Common.{◌≡◌, ℕ, zero, suc, ◌+◌, ◌-◌, ◌*◌, ◌/◌, ◌%◌, ◌<◌, ◌≤◌, ◌||◌, eqb, List, [], ◌∷◌, length, get_or, take, drop, sym, refl, ap, ◌∙◌, arith, length-drop}
 use Rattle.std.specs.Int.{from_le_bytes, w32}
-use Rattle.std.specs.List.{flat_map, slice_range}
+use Rattle.std.specs.List.{flat_map, list_any, slice_range}
+use Rattle.std.specs.Simd.{first_chunks}
 use Rattle.std.proofs.lemmas.List.{get_or-drop, get_or-take, length-take-le, take_all}
+use Rattle.network_file.specs.Checks.{has}
 use Rattle.network_file.specs.Fields.{byte_at, field_at, fields_from}
 use Rattle.network_file.specs.Laws.{Bytes}
 use Rattle.network_file.specs.Layout.{arc_fields}
@@ -98,3 +100,16 @@ numbers_arcs b n k is all whole =
     let count : length (drop n b) / 4 ≡ 3 * arc_count b = omega (arith, length-drop n b, whole.all) in
     let from : n + 0 ≡ arcs_begin b = omega arith in
     rw (rest, count) (ap arcs_in (fields_drop b n 0 (3 * arc_count b) ∙ rw from (arc_fields_read b (arcs_begin b) (arc_count b))) ∙ arcs_of_numbers (arcs_from b (arcs_begin b) (arc_count b)))
+
+-- a number is read from a chunk of four bytes where it is among the fields
+chunks_have : (b : List ℕ) (count x : ℕ) → Bytes b → list_any (λ y. eqb (from_le_bytes w32 y) x) (first_chunks 4 count b) ≡ has (fields_from b 0 count) x
+chunks_have b zero x small = refl
+chunks_have b (suc count) x small =
+    let here = first_field b (take 4 b) _ small refl refl in
+    let there = chunks_have (drop 4 b) count x (λ i. rw (get_or-drop 4 b i 0) (small (4 + i))) in
+    rw (here, there) (ap (λ l. eqb (field_at b 0) x || has l x) (fields_drop b 4 0 count))
+
+-- a search of all the chunks is one of the whole fields
+pub searched : (b : List ℕ) (fields : List (List ℕ)) (x : ℕ) → Bytes b → fields ≡ first_chunks 4 (length b / 4) b → list_any (λ y. eqb (from_le_bytes w32 y) x) fields ≡ has (numbers_in b) x
+unfolding numbers_in
+searched b fields x small are = rw are (chunks_have b (length b / 4) x small)

@@ -1,7 +1,9 @@
 // Fields of a network file: 32 bits, the low byte first.
 
 ghost use Rattle.std.specs.Prelude.{◌≡◌, ◌+◌, ◌<◌, ◌≤◌, length, drop, MatchOption};
+ghost use Rattle.network_file.specs.Checks.{has};
 ghost use Rattle.network_file.specs.Fields.{field_at, field_read};
+ghost use Rattle.network_file.specs.Reading.{numbers_in};
 
 use fault::Fault;
 
@@ -27,6 +29,20 @@ pub(crate) fn split_field(bytes: &[u8]) -> Option<(u32, &[u8])>
 {
     let (field, rest) = bytes.split_first_chunk()?;
     Some((u32::from_le_bytes(*field), rest))
+}
+
+// Whether one of the whole fields of some bytes is `number`.
+pub(crate) fn has_field(bytes: &[u8], number: u32) -> bool
+    ensures { result ≡ has (numbers_in bytes.now) number }
+{
+    let (fields, _) = bytes.as_chunks();
+    // This compiles to vector code, and `any` does not.
+    for field in fields {
+        if u32::from_le_bytes(*field) == number {
+            return true;
+        }
+    }
+    false
 }
 
 /// The field of the file `bytes` that begins at byte `at`. A file of 65,536 bytes or more has no fields

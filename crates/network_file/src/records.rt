@@ -4,15 +4,16 @@ ghost use Rattle.std.specs.Prelude.{◌≡◌, []};
 ghost use Rattle.network_file.specs.Checks.{has, nodes_differ, ends_listed};
 ghost use Rattle.network_file.specs.Reading.{arcs_begin, nodes_of, arcs_of, numbers_in};
 
+use crate::fields::has_field;
 use crate::view::NetworkFile;
 use crate::walk::Numbers;
 use fault::Fault;
 
 // Whether `node` is one of these nodes.
-fn listed(mut nodes: Numbers<'_>, node: u32) -> bool
+fn listed(nodes: Numbers<'_>, node: u32) -> bool
     ensures { result ≡ has (numbers_in nodes.entry.rest.now) node }
 {
-    nodes.any(|other| other == node)
+    has_field(nodes.rest, node)
 }
 
 // No node record equals an earlier one.
