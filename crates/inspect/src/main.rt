@@ -2,7 +2,7 @@
 
 #![tactic(auto)]
 
-ghost use Rattle.std.specs.Prelude.{◌≡◌, Some, is_ok};
+ghost use Rattle.std.specs.Prelude.{◌≡◌, ◌≤◌, length, Some, is_ok, IfOk};
 ghost use Rattle.inspect.specs.Report.{contents_text, told, answer_of, report};
 ghost use Rattle.network_file.specs.Checks.{checked};
 ghost use Rattle.network_file.specs.Reading.{contents_of};
@@ -10,8 +10,8 @@ ghost use Rattle.network_file.specs.Reading.{contents_of};
 use anyhow::ensure;
 use fault::Fault;
 use network_file::{FILE_LIMIT, NetworkFile, check};
-use std::fmt;
 use std::io::Read;
+use std::{fmt, io};
 
 // What a network file holds: the counts, then a line for each node and each arc in file sequence.
 #[derive(Clone, Copy)]
@@ -43,6 +43,7 @@ struct Report<'a> {
 
 impl<'a> Report<'a> {
     fn new(bytes: &'a [u8]) -> Self
+        requires { length bytes.now ≤ 65536 }
         ensures told { told result.length (answer_of result.answer) ≡ report bytes.now }
         ensures granted { is_ok result.answer ≡ is_ok (checked bytes.now) }
     {
@@ -66,10 +67,25 @@ impl fmt::Display for Report<'_> {
     }
 }
 
+// Fills `bytes` from the standard input, and answers how many came.
+fn read_file(rt: &HostRuntime, bytes: &mut [u8]) -> io::Result<usize>
+    ensures { IfOk result (λ n. n ≤ length bytes.old) }
+{
+    let mut length = 0;
+    while length < bytes.len() {
+        let got = rt.stdin().read(&mut bytes[length..])?;
+        if got == 0 {
+            break;
+        }
+        length += got;
+    }
+    Ok(length)
+}
+
 fn main(rt: HostRuntime) -> anyhow::Result<()> {
-    let mut bytes = Vec::new(rt.alloc());
-    rt.stdin().take(FILE_LIMIT as u64).read_to_end(&mut bytes)?;
-    let report = Report::new(&bytes);
+    let mut bytes = [0; FILE_LIMIT];
+    let length = read_file(&rt, &mut bytes)?;
+    let report = Report::new(&bytes[..length]);
     rt.print(report)?;
     ensure!(report.answer.is_ok(), "refused");
     Ok(())
