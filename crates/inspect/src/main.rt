@@ -86,7 +86,8 @@ fn main(rt: HostRuntime) -> anyhow::Result<()> {
     let mut bytes = [0; FILE_LIMIT];
     let length = read_file(&rt, &mut bytes)?;
     let report = Report::new(&bytes[..length]);
-    rt.print(report)?;
+    let text = format!(in rt.alloc(); "{report}")?;
+    rt.write_all(text.as_bytes())?;
     ensure!(report.answer.is_ok(), "refused");
     Ok(())
 }
