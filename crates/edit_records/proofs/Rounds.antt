@@ -1,5 +1,5 @@
 -- Junctions by their numbers, and a number of rounds.
-use Rattle.std.proofs.Common.{◌≡◌, ℕ, zero, suc, ◌+◌, ◌-◌, ◌^◌, ◌<◌, ◌≤◌, ◌%◌, ◌==◌, cond, List, [], ◌∷◌, Some, None, Option, Bool, true, false, is_some, is_err, Result, sym, refl, ap, ◌∙◌, arith}
+use Rattle.std.proofs.Common.{◌≡◌, ℕ, zero, suc, ◌+◌, ◌-◌, ◌^◌, ◌<◌, ◌≤◌, ◌%◌, ◌==◌, cond, List, [], ◌∷◌, Some, None, Option, Bool, true, false, Bor, is_some, is_err, Result, sym, refl, ap, ◌∙◌, arith}
 use mathlib.Core.HLevel.{is_prop→PathP}
 use native.Mathlib.Bridge.{le_prop}
 use Rattle.std.proofs.Math.Nat.{mod-eq_of_lt}
@@ -9,7 +9,7 @@ use Rattle.fault.specs.declared.Fault.{Fault}
 use Rattle.graphmap.specs.Capacity.{capacity_answer}
 use Rattle.edit_lines.specs.declared.words.LineWords.{LineWords}
 use Rattle.keys.specs.declared.junction.Junction.{Junction}
-use Rattle.edit_records.specs.Reading.{Words, texts, left, times, junction, number_at}
+use Rattle.edit_records.specs.Reading.{Words, texts, texts_in_line, left, left_in_line, left_by, times, junction, number_at}
 use Rattle.edit_records.specs.Showing.{counted, after_list}
 
 alike : (x y : Junction) → x.value ≡ y.value → x ≡ y
@@ -42,13 +42,27 @@ module _ {X : Type 0} (f : X → Words → Option Words) where
   not_shown zero x ys xs words all lt e none h = absurd (omega arith)
   not_shown (suc n) x ys xs words all lt e none h = sym h ∙ ap (λ zs. counted f (suc n) zs words) e ∙ ap (option_and_then (counted f n ys)) none
 
-pub left_if : (b : Bool) (rest : LineWords) → left (then_some b rest) ≡ cond b (Some (texts rest)) None
-left_if true rest = refl
-left_if false rest = refl
+pub left_by_if : {W : Type 0} (words : W → Words) (b : Bool) (rest : W) → left_by words (then_some b rest) ≡ cond b (Some (words rest)) None
+left_by_if words true rest = refl
+left_by_if words false rest = refl
 
-pub some_left : (rest : Option LineWords) → is_some rest ≡ is_some (left rest)
-some_left None = refl
-some_left (Some rest) = refl
+pub some_left_by : {W : Type 0} (words : W → Words) (rest : Option W) → is_some rest ≡ is_some (left_by words rest)
+some_left_by words None = refl
+some_left_by words (Some rest) = refl
+
+-- of lent texts
+pub left_if : (b : Bool) (rest : Bor (List (Bor (List ℕ)))) → left (then_some b rest) ≡ cond b (Some (texts rest.now)) None
+left_if = left_by_if (λ rest. texts rest.now)
+
+pub some_left : (rest : Option (Bor (List (Bor (List ℕ))))) → is_some rest ≡ is_some (left rest)
+some_left = some_left_by (λ rest. texts rest.now)
+
+-- of the words of a line
+pub left_if_in_line : (b : Bool) (rest : LineWords) → left_in_line (then_some b rest) ≡ cond b (Some (texts_in_line rest)) None
+left_if_in_line = left_by_if texts_in_line
+
+pub some_left_in_line : (rest : Option LineWords) → is_some rest ≡ is_some (left_in_line rest)
+some_left_in_line = some_left_by texts_in_line
 
 -- places that were taken fit
 pub taken : {M : Type 0} (fit : Bool) (answer : Result (Unit {0}) Fault) (built before after : M) → answer ≡ capacity_answer fit → is_err answer ≡ false → after ≡ cond fit built before → after ≡ built

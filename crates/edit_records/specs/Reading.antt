@@ -1,5 +1,6 @@
 -- Reading a record word by word: each reader takes the words that are left, and answers what it read and the words after it.
-use Rattle.std.specs.Prelude.{ℕ, ◌^◌, ◌%◌, zero, suc, cond, List, [], ◌∷◌, ◌++◌, ◌&&◌, Some, None, Option, nat_lt, codes}
+use Rattle.std.specs.Prelude.{ℕ, ◌^◌, ◌%◌, zero, suc, cond, List, [], ◌∷◌, ◌++◌, ◌&&◌, map, Some, None, Option, nat_lt, codes}
+use Rattle.std.specs.Borrow.{Bor}
 use Rattle.std.specs.Option.{option_map, option_and_then}
 use Rattle.std.specs.Str.{all_ascii_digits}
 use Rattle.std.specs.Str.Parse.{digits_value}
@@ -15,18 +16,37 @@ use Rattle.edit_lines.specs.declared.words.LineWords.{LineWords}
 abbrev pub Words : Type 0
 Words = List (List ℕ)
 
--- the words of a line that are still to be read
-abbrev pub texts : LineWords → Words
-texts words = words_left words
+-- the words that lent texts have
+abbrev pub texts : List (Bor (List ℕ)) → Words
+texts words = map (λ word. word.now) words
 
 -- what was read, and the words after it
-abbrev pub read : {X : Type 0} → Option (X × LineWords) → Option (X × Words)
-read = option_map (λ r. (r.0, texts r.1))
+abbrev pub read : {X : Type 0} → Option (X × Bor (List (Bor (List ℕ)))) → Option (X × Words)
+read = option_map (λ r. (r.0, texts r.1.now))
 
 -- the words that are left, where what stood before them was as it should be
-abbrev pub left : Option LineWords → Option Words
-left = option_map texts
+abbrev pub left : Option (Bor (List (Bor (List ℕ)))) → Option Words
+left = option_map (λ rest. texts rest.now)
 
+-- ---- the same of the words of a line
+-- the words of a line that are still to be read
+abbrev pub texts_in_line : LineWords → Words
+texts_in_line words = words_left words
+
+abbrev pub read_in_line : {X : Type 0} → Option (X × LineWords) → Option (X × Words)
+read_in_line = option_map (λ r. (r.0, texts_in_line r.1))
+
+abbrev pub left_in_line : Option LineWords → Option Words
+left_in_line = option_map texts_in_line
+
+-- ---- the same of whatever has words, by what tells them
+abbrev pub read_by : {W X : Type 0} → (W → Words) → Option (X × W) → Option (X × Words)
+read_by words = option_map (λ r. (r.0, words r.1))
+
+abbrev pub left_by : {W : Type 0} → (W → Words) → Option W → Option Words
+left_by words = option_map words
+
+-- ---- what the words mean
 -- f is done n times, as long as it answers
 abbrev pub times : {X : Type 0} → ℕ → (X → Option X) → X → Option X
 times zero f x = Some x

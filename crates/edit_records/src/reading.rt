@@ -1,9 +1,10 @@
 ghost use Rattle.std.specs.Prelude.{◌≡◌, ◌^◌, IfOk};
 ghost use Rattle.std.specs.Option.{option_map};
 ghost use Rattle.replay.specs.Steps.{edits_of};
-ghost use Rattle.edit_records.specs.Reading.{texts, read, recorded_number, number_at, junction_at, edit_at, edits_at};
+ghost use Rattle.edit_records.specs.Reading.{texts, read, read_by, recorded_number, number_at, junction_at, edit_at, edits_at};
 
-use edit_lines::{JunctionEdit, JunctionStep, LineWords};
+use crate::words::RecordWords;
+use edit_lines::{JunctionEdit, JunctionStep};
 use keys::Junction;
 use map_model::Edit;
 use replay::Step;
@@ -22,25 +23,33 @@ fn recorded_number(word: &str) -> Option<u32>
     word.parse().ok()
 }
 
-/// The recorded number that the words begin with, and the words after it.
-pub fn number<'a>(words: LineWords<'a>) -> Option<(u32, LineWords<'a>)>
-    ensures { read result ≡ number_at (texts words.entry) }
+// The recorded number that the words begin with, and the words after it. Inlined, since a call would pass the words through memory.
+#[inline(always)]
+pub(crate) fn read_number<W: RecordWords>(words: W) -> Option<(u32, W)>
+    ensures { read_by W.words result ≡ number_at (W.words words) }
 {
     let (word, rest) = words.split_first()?;
     Some((recorded_number(word)?, rest))
 }
 
-// The junction of a recorded number, and the words after it.
-fn junction<'a>(words: LineWords<'a>) -> Option<(Junction, LineWords<'a>)>
-    ensures { read result ≡ junction_at (texts words.entry) }
+/// The recorded number that the words begin with, and the words after it.
+pub fn number<'w, 'a>(words: &'w [&'a str]) -> Option<(u32, &'w [&'a str])>
+    ensures { read result ≡ number_at (texts words.now) }
 {
-    let (value, rest) = number(words)?;
+    read_number(words)
+}
+
+// The junction of a recorded number, and the words after it.
+fn junction<W: RecordWords>(words: W) -> Option<(Junction, W)>
+    ensures { read_by W.words result ≡ junction_at (W.words words) }
+{
+    let (value, rest) = read_number(words)?;
     Some((Junction::new(value), rest))
 }
 
 // The edit that the words begin with, and the words after it.
-fn edit<'a>(words: LineWords<'a>) -> Option<(JunctionEdit, LineWords<'a>)>
-    ensures { read result ≡ edit_at (texts words.entry) }
+fn edit<W: RecordWords>(words: W) -> Option<(JunctionEdit, W)>
+    ensures { read_by W.words result ≡ edit_at (W.words words) }
 {
     let (verb, words) = words.split_first()?;
     let (first, words) = junction(words)?;
@@ -53,7 +62,7 @@ fn edit<'a>(words: LineWords<'a>) -> Option<(JunctionEdit, LineWords<'a>)>
         }
         "a" => {
             let (second, words) = junction(words)?;
-            let (weight, words) = number(words)?;
+            let (weight, words) = read_number(words)?;
             Some((Edit::AddEdge(first, second, weight), words))
         }
         _ => None,
@@ -61,20 +70,23 @@ fn edit<'a>(words: LineWords<'a>) -> Option<(JunctionEdit, LineWords<'a>)>
 }
 
 // A count and so many edits, as the steps of a replay, and the words after them.
-pub(crate) fn steps<'a>(
+pub(crate) fn steps<W: RecordWords>(
     alloc: Global,
-    words: LineWords<'a>,
-) -> Result<Option<(Vec<JunctionStep>, LineWords<'a>)>, AllocError>
-    ensures { IfOk result (λ steps. option_map (λ r. (edits_of r.0.items, texts r.1)) steps ≡ edits_at (texts words.entry)) }
+    words: W,
+) -> Result<Option<(Vec<JunctionStep>, W)>, AllocError>
+    ensures { IfOk result (λ steps. option_map (λ r. (edits_of r.0.items, W.words r.1)) steps ≡ edits_at (W.words words)) }
 {
-    let Some((count, mut rest)) = number(words) else {
+    // A pair is taken apart on a line of its own: of generic words that a pattern takes out of an `Option` of a pair the check knows nothing.
+    let Some(counted) = read_number(words) else {
         return Ok(None);
     };
+    let (count, mut rest) = counted;
     let mut steps: Vec<JunctionStep> = Vec::new(alloc);
     for _ in 0..count {
-        let Some((edit, after)) = edit(rest) else {
+        let Some(read) = edit(rest) else {
             return Ok(None);
         };
+        let (edit, after) = read;
         steps.push(Step { edit, answer: None })?;
         rest = after;
     }

@@ -42,7 +42,7 @@ fn main(rt: HostRuntime) -> anyhow::Result<()> {
         let line = line?;
         match LineWords::new(line.as_str()).split_first() {
             Some(("edits", rest)) => {
-                edit_lists = edit_lists.with(edit_records::record(rt.alloc(), rest)?);
+                edit_lists = edit_lists.with(edit_records::record_in_line(rt.alloc(), rest)?);
             }
             Some(("order", rest)) => orders = orders.with(orders::record(rt.alloc(), rest)?),
             _ => others = others.with(false),

@@ -1,7 +1,7 @@
 // Recorded orders: the nodes in their sequence and the positions of the held arcs.
 
 use edit_lines::LineWords;
-use edit_records::{after_number, number};
+use edit_records::{after_number_in_line, number_in_line};
 use feedback_arc_set::Ordering;
 use heap_tables::WorkTables;
 use keys::{Junction, Key};
@@ -15,10 +15,10 @@ const MOST_ARCS: u32 = 16384;
 
 // The words after the nodes of an order, where they are the recorded ones, and no more.
 fn after_order<'a>(words: LineWords<'a>, ordering: &Ordering<'_>) -> Option<LineWords<'a>> {
-    let (mut count, mut rest) = number(words)?;
+    let (mut count, mut rest) = number_in_line(words)?;
     for node in ordering.nodes() {
         count = count.checked_sub(1)?;
-        rest = after_number(rest, node.get())?;
+        rest = after_number_in_line(rest, node.get())?;
     }
     (count == 0).then_some(rest)
 }
@@ -30,9 +30,9 @@ fn after_held<'a>(
     source: &ArcSlice<'_, Junction, u32>,
 ) -> Option<LineWords<'a>> {
     let mut held = ordering.held(source).ok()?;
-    let (count, mut rest) = number(words)?;
+    let (count, mut rest) = number_in_line(words)?;
     for _ in 0..count {
-        rest = after_number(rest, held.next(source)?.position)?;
+        rest = after_number_in_line(rest, held.next(source)?.position)?;
     }
     held.next(source).is_none().then_some(rest)
 }
@@ -56,8 +56,8 @@ fn orders_as(heap: Global, arcs: &[JunctionArc], words: LineWords<'_>) -> Result
 
 // The arc that the words begin with, and the words after it.
 fn arc<'a>(words: LineWords<'a>) -> Option<(JunctionArc, LineWords<'a>)> {
-    let (source, words) = number(words)?;
-    let (target, words) = number(words)?;
+    let (source, words) = number_in_line(words)?;
+    let (target, words) = number_in_line(words)?;
     let arc = Arc {
         source: Junction::new(source),
         target: Junction::new(target),
@@ -71,7 +71,7 @@ fn arcs<'a>(
     heap: Global,
     words: LineWords<'a>,
 ) -> Result<Option<(Vec<JunctionArc>, LineWords<'a>)>, AllocError> {
-    let Some((count, mut rest)) = number(words) else {
+    let Some((count, mut rest)) = number_in_line(words) else {
         return Ok(None);
     };
     let mut arcs: Vec<JunctionArc> = Vec::new(heap);

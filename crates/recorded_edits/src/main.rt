@@ -3,14 +3,14 @@
 #![tactic(auto)]
 
 use edit_lines::LineWords;
-use edit_records::record;
+use edit_records::record_in_line;
 use std::alloc::{AllocError, Global};
 use std::io::{BufRead, BufReader};
 
 // Whether a line is a record of edits, and agrees.
 fn agrees(heap: Global, line: &str) -> Result<bool, AllocError> {
     match LineWords::new(line).split_first() {
-        Some(("edits", rest)) => record(heap, rest),
+        Some(("edits", rest)) => record_in_line(heap, rest),
         _ => Ok(false),
     }
 }
