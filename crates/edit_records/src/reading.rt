@@ -76,7 +76,7 @@ pub(crate) fn steps<W: RecordWords>(
 ) -> Result<Option<(Vec<JunctionStep>, W)>, AllocError>
     ensures { IfOk result (λ steps. option_map (λ r. (edits_of r.0.items, W.words r.1)) steps ≡ edits_at (W.words words)) }
 {
-    // A pair is taken apart on a line of its own: of generic words that a pattern takes out of an `Option` of a pair the check knows nothing.
+    // A pair is taken apart on a line of its own: words that the pattern of `Some` takes out of it have a name in the loop that no proof can cite.
     let Some(counted) = read_number(words) else {
         return Ok(None);
     };

@@ -28,6 +28,6 @@ impl<'a> RecordWords for LineWords<'a> {
     ghost words = { texts_in_line };
 
     fn split_first(&self) -> Option<(&str, Self)> {
-        (*self).split_first()
+        LineWords::split_first(*self)
     }
 }
