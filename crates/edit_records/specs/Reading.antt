@@ -39,7 +39,7 @@ read_in_line = option_map (λ r. (r.0, texts_in_line r.1))
 abbrev pub left_in_line : Option LineWords → Option Words
 left_in_line = option_map texts_in_line
 
--- ---- the same of whatever has words, by what tells them
+-- ---- the same of anything that has words, which `words` gives
 abbrev pub read_by : {W X : Type 0} → (W → Words) → Option (X × W) → Option (X × Words)
 read_by words = option_map (λ r. (r.0, words r.1))
 
